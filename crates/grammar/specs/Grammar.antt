@@ -58,3 +58,9 @@ AllTerminals G (w ∷ ws) = IsTerminal G w × AllTerminals G ws
 abbrev pub AllCodes : Grammar → List ℕ → Type 0
 AllCodes G [] = Unit {0}
 AllCodes G (X ∷ Xs) = (IsTerminal G X ⊎ IsNonterminal G X) × AllCodes G Xs
+
+-- A nonterminal stands on every left side, and terminals and nonterminals on every right side; and there is a start.
+pub record Valid (G : Grammar) : Type 0 where
+  pub some-nonterminal : 1 ≤ G .nonterminals
+  pub lefts : (r : ℕ) → IsRule G r → IsNonterminal G (leftSide G r)
+  pub rights : (r : ℕ) → IsRule G r → AllCodes G (rightSide G r)

@@ -1,2 +1,13 @@
 pub mod Grammar
 pub mod Refusals
+pub mod Trees
+pub mod Derivation
+pub mod Items
+pub mod States
+pub mod Lookahead
+pub mod Cells
+pub mod Useful
+pub mod Machine
+pub mod Line
+pub mod Outcome
+pub mod Theorems
