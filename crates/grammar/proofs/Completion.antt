@@ -1,14 +1,14 @@
 -- Sets of items moved and completed.
-use mathlib.Core.Path.{_≡_, refl, sym, ap, subst, _∙_, fun-ext}
-use mathlib.Core.Bool.{Bool, true, false, _&&_}
+use mathlib.Core.Path.{_≡_, refl, sym, ap, subst, fun-ext}
+use mathlib.Core.Bool.{true}
 use mathlib.Core.Option.{Option, some, none}
-use mathlib.Core.Logic.{inl, inr}
-use Prim.Native.Nat.{ℕ, zero, suc}
+use Prim.Native.Nat.{ℕ, suc}
 use lib.Dec.{eqb}
 use lib.ListN.{getElem?}
-use Rattle.std.proofs.shelf.Tests.{and-parts, and-from, eqb-true, eq-eqb, false≢true, cases-bool}
+use Rattle.std.proofs.shelf.Tests.{and-parts, and-from, eqb-true, eq-eqb, false≢true}
 use Rattle.grammar.specs.Grammar.{Grammar, IsRule, leftSide, rightSide}
 use Rattle.grammar.specs.Items.{CodeAt, Items, Same, Closure, given, begun, Completes, origin, codeIs, behind}
+use Rattle.grammar.proofs.Agreement.{bool-iff}
 
 pub code-is : (o : Option ℕ) (X : ℕ) → codeIs o X ≡ true → o ≡ some X
 code-is none X h = absurd (false≢true h)
@@ -25,9 +25,8 @@ origin-is r d h = let p = and-parts (eqb r 0) (eqb d 0) h in (eqb-true r 0 (p .0
 pub equal-sets : (S T : Items) → Same S T → S ≡ T
 equal-sets S T h = fun-ext λ r. fun-ext λ d. h r d
 
-bool-iff : (a b : Bool) → (a ≡ true → b ≡ true) → (b ≡ true → a ≡ true) → a ≡ b
-bool-iff true b f g = sym (f refl)
-bool-iff false b f g = elim (cases-bool b) [ inl e ↦ g e ∙ sym e | inr e ↦ sym e ]
+pub same-items : {S T : Items} → S ≡ T → Same S T
+same-items e r d = ap (λ S. S r d) e
 
 module _ (G : Grammar) where
   -- What a move takes along, and what it leaves behind the dot.

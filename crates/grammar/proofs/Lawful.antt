@@ -7,7 +7,7 @@ use native.Mathlib.Omega.{arith}
 use Rattle.std.proofs.shelf.Tests.{false≢true}
 use Rattle.grammar.specs.Grammar.{Grammar}
 use Rattle.grammar.specs.Items.{Items, CodeAt, Closure, given, begun, Completes, origin, behind}
-use Rattle.grammar.specs.States.{Automaton, Numbered, Made, moved, at-origin, closure, Laws}
+use Rattle.grammar.specs.States.{Automaton, Numbered, Made, moved, at-origin, closure}
 use Rattle.grammar.specs.Theorems.{LawfulStates}
 use Rattle.grammar.proofs.Completion.{origin-is, moved-from, moved-onto, was-given, stays-closed}
 use Rattle.grammar.proofs.Moves.{goes, is-state, kernel}

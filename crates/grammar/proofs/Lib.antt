@@ -1,3 +1,11 @@
+pub mod Agreement
 pub mod Completion
 pub mod Moves
 pub mod Lawful
+pub mod ReachedSets
+pub mod Places
+pub mod OneNumbering
+pub mod Pigeonhole
+pub mod NotCrowded
+pub mod OneConflict
+pub mod OneOutcome
