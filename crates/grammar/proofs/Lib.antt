@@ -9,3 +9,5 @@ pub mod Pigeonhole
 pub mod NotCrowded
 pub mod OneConflict
 pub mod OneOutcome
+pub mod Codes
+pub mod ItemLists

@@ -11,3 +11,5 @@ pub mod Machine
 pub mod Line
 pub mod Outcome
 pub mod Theorems
+pub mod ItemLists
+pub mod StateLists
