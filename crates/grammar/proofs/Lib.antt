@@ -11,3 +11,6 @@ pub mod OneConflict
 pub mod OneOutcome
 pub mod Codes
 pub mod ItemLists
+pub mod StateSteps
+pub mod Placing
+pub mod StateLists
