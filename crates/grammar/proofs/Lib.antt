@@ -5,3 +5,9 @@ pub mod Reductions
 pub mod FirstWords
 pub mod Runs
 pub mod Completeness
+pub mod Soundness
+pub mod ViablePrefix
+pub mod Postorder
+pub mod Stepwise
+pub mod Sentences
+pub mod Taken
