@@ -11,3 +11,7 @@ pub mod Postorder
 pub mod Stepwise
 pub mod Sentences
 pub mod Taken
+pub mod MachineEnds
+pub mod OpenLines
+pub mod JudgedLines
+pub mod TakenWords
