@@ -15,3 +15,14 @@ pub mod MachineEnds
 pub mod OpenLines
 pub mod JudgedLines
 pub mod TakenWords
+pub mod Agreement
+pub mod Completion
+pub mod Moves
+pub mod Lawful
+pub mod ReachedSets
+pub mod Places
+pub mod OneNumbering
+pub mod Pigeonhole
+pub mod NotCrowded
+pub mod OneConflict
+pub mod OneOutcome
