@@ -9,11 +9,11 @@ use Rattle.grammar.specs.Derivation.{Derives, Begins}
 use Rattle.grammar.specs.States.{Automaton, Laws}
 use Rattle.grammar.specs.Cells.{ConflictFree}
 use Rattle.grammar.specs.Machine.{AcceptsWords, Run}
-use Rattle.grammar.proofs.Postorder.{rightmost-of, forest-of}
-use Rattle.grammar.proofs.Stepwise.{derived, derives}
+use Rattle.grammar.proofs.DerivedTrees.{rightmost-of, forest-of}
+use Rattle.grammar.proofs.FormSteps.{derived, derives}
 use Rattle.grammar.proofs.Runs.{same-rules}
-use Rattle.grammar.proofs.Completeness.{complete}
-use Rattle.grammar.proofs.Soundness.{sound}
+use Rattle.grammar.proofs.FollowedTrees.{complete}
+use Rattle.grammar.proofs.SpelledStacks.{sound}
 use Rattle.grammar.proofs.ViablePrefix.{prefix-tree}
 
 module _ {G : Grammar} (v : Valid G) where

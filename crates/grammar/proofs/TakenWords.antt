@@ -18,10 +18,10 @@ use Rattle.grammar.specs.Line.{Line, Ended, stuck, full, shifted, accepted, ru
 use Rattle.grammar.specs.declared.action.Action.{Action}
 use Rattle.grammar.proofs.Forests.{terminals-of}
 use Rattle.grammar.proofs.Runs.{then}
-use Rattle.grammar.proofs.Soundness.{stands-at, can-reduce}
-use Rattle.grammar.proofs.Stepwise.{is-terminal}
+use Rattle.grammar.proofs.SpelledStacks.{stands-at, can-reduce}
+use Rattle.grammar.proofs.FormSteps.{is-terminal}
 use Rattle.grammar.proofs.Sentences.{tree-of, begins-sentence}
-use Rattle.grammar.proofs.Taken.{no-middle}
+use Rattle.grammar.proofs.AcceptedPrefixes.{no-middle}
 use Rattle.grammar.proofs.MachineEnds.{Says, says, Agrees, agrees}
 use Rattle.grammar.proofs.OpenLines.{Standing, standing, same-line, not-after}
 use Rattle.grammar.proofs.JudgedLines.{rest}

@@ -14,7 +14,7 @@ use Rattle.grammar.specs.Machine.{Run, Spells, bottom, push}
 use Rattle.grammar.proofs.ListParts.{drop-at-code}
 use Rattle.grammar.proofs.Forests.{join, Split, split}
 use Rattle.grammar.proofs.Dots.{Has}
-use Rattle.grammar.proofs.Soundness.{at-bottom, stands-at}
+use Rattle.grammar.proofs.SpelledStacks.{at-bottom, stands-at}
 
 module _ {G : Grammar} (valid : Valid G) (productive : AllProductive G) where
   right-past : (i : ℕ) → ¬ (suc i ≤ length (G .rules)) → rightSide G (suc i) ≡ []

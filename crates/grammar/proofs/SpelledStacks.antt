@@ -16,7 +16,7 @@ use Rattle.grammar.proofs.ListParts.{take-suc-at}
 use Rattle.grammar.proofs.Forests.{join, Split, split, tree}
 use Rattle.grammar.proofs.Dots.{Has}
 use Rattle.grammar.proofs.Reductions.{reduction}
-use Rattle.grammar.proofs.Completeness.{right-of-0}
+use Rattle.grammar.proofs.FollowedTrees.{right-of-0}
 
 module _ {G : Grammar} {A : Automaton} (L : Laws G A) where
   made-has : {s r d : ℕ} → Made G (A .has) s r d → Has A s r d
