@@ -2,6 +2,7 @@
 mod action;
 mod numbering;
 mod refusal;
+mod theorems;
 
 pub use action::Action;
 pub use action::ActionDebug;
@@ -14,3 +15,15 @@ pub use numbering::one_outcome;
 pub use refusal::Refusal;
 pub use refusal::RefusalDebug;
 pub use refusal::RefusalPartialEq;
+pub use theorems::completeness;
+pub use theorems::depth;
+pub use theorems::judged_good;
+pub use theorems::judged_rules;
+pub use theorems::never_stuck;
+pub use theorems::postorder;
+pub use theorems::soundness;
+pub use theorems::stepwise;
+pub use theorems::taken;
+pub use theorems::unambiguity;
+pub use theorems::viable_prefix;
+pub use theorems::word_taken;
