@@ -1,0 +1,13 @@
+pub mod Bitwise
+pub mod SetMembers
+pub mod Parts
+pub mod Paths
+pub mod Tracing
+mod Listed
+mod Counts
+mod Closing
+mod Turns
+mod Calls
+mod Folds
+mod Pops
+mod Ends

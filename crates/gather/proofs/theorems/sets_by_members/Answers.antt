@@ -1,0 +1,5 @@
+use Rattle.gather.proofs.SetMembers.{by-members}
+use Rattle.gather.proofs.theorems.sets_by_members.Needs as need
+
+pub returns : need.returns
+returns c = by-members

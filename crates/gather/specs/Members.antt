@@ -1,0 +1,28 @@
+-- The members of word sets.
+use mathlib.Core.Bool.{Bool}
+use mathlib.Core.Path.{_≡_}
+use Prim.Native.Nat.{ℕ, _/_, _%_, _^_}
+use lib.Bits.{bitOr}
+use lib.Dec.{eqb}
+use Rattle.gather.specs.Gathered.{TracedBy}
+use Rattle.gather.specs.declared.word_set.WordSet.{WordSet}
+
+-- Whether k is a member: the bit at place k is 1.
+unfoldable pub has : WordSet → ℕ → Bool
+has s k = eqb (s .0 / 2 ^ k % 2) 1
+
+-- The set without members.
+abbrev pub noMembers : WordSet
+noMembers = record { 0 = 0 }
+
+-- The members of both.
+abbrev pub unite : WordSet → WordSet → WordSet
+unite a b = record { 0 = bitOr (a .0) (b .0) }
+
+-- Two sets with the same members are equal.
+abbrev pub ByMembers : Type 0
+ByMembers = (a b : WordSet) → ((k : ℕ) → has a k ≡ has b k) → a ≡ b
+
+-- A gathered set has exactly the members of the seeds that its place reaches.
+abbrev pub MembersReached : Type 0
+MembersReached = (k : ℕ) → TracedBy noMembers unite (λ s. has s k)
