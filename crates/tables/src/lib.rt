@@ -1,0 +1,3 @@
+// From a rule sheet to its LALR(1) tables, stage by stage.
+mod rules;
+mod states;
