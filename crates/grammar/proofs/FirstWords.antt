@@ -7,7 +7,7 @@ use lib.ListN.{length}
 use Rattle.grammar.specs.Grammar.{Grammar, IsNonterminal, IsRule, Valid, leftSide, rightSide}
 use Rattle.grammar.specs.Trees.{Forest, empty, leaf, node, Nullable, AllNullable}
 use Rattle.grammar.specs.States.{Automaton, Laws}
-use Rattle.grammar.specs.Lookahead.{Star, stop, go, Transition, Direct, next-word, Reads, Read}
+use Rattle.grammar.specs.Lookahead.{stop, go, Direct, next-word, Reads, Read}
 use Rattle.grammar.proofs.Forests.{tree, nullable-nonterminal}
 use Rattle.grammar.proofs.Dots.{Has, closed-at, moves-at}
 

@@ -7,9 +7,9 @@ use lib.ListN.{length, drop}
 use Rattle.grammar.specs.Grammar.{Grammar, IsNonterminal, IsRule, Valid, leftSide, rightSide, start}
 use Rattle.grammar.specs.Trees.{Forest, empty, leaf, node, TreeOf}
 use Rattle.grammar.specs.States.{Automaton, Laws}
-use Rattle.grammar.specs.Lookahead.{stop, go, Leads, here, onward, Transition, next-end, Includes, Follow, Lookahead}
+use Rattle.grammar.specs.Lookahead.{stop, go, Leads, here, onward, next-end, Includes, Follow, Lookahead}
 use Rattle.grammar.specs.Cells.{may-shift, may-accept, may-reduce}
-use Rattle.grammar.specs.Machine.{Run, halt, shift, reduce, Accepts, accept, AcceptsWords}
+use Rattle.grammar.specs.Machine.{Run, halt, shift, reduce, accept, AcceptsWords}
 use Rattle.grammar.proofs.ListParts.{drop-suc}
 use Rattle.grammar.proofs.Forests.{Root, root}
 use Rattle.grammar.proofs.Dots.{Has, closed-at, moves-at, leads-snoc}

@@ -24,7 +24,7 @@ module _ {G : Grammar} {A : Automaton} (v : Valid G) (L : Laws G A) (cells : ℕ
       let x : Accepts G A (0 ∷ []) (l .words ++ (z ++ 0 ∷ [])) (reverse ds) = rw append-assoc at (accepts-derivation v L ds (l .words ++ z) d) in
       along (conflict-free G A cells exact) (st .run (z ++ 0 ∷ [])) x
 
-  rest-end : (ds : List ℕ) → Derives G ds (l .words) → (qs : List ℕ) × (reverse ds ≡ l .rules ++ qs) × Accepts G A (l .states) (0 ∷ []) qs
+  pub rest-end : (ds : List ℕ) → Derives G ds (l .words) → (qs : List ℕ) × (reverse ds ≡ l .rules ++ qs) × Accepts G A (l .states) (0 ∷ []) qs
   rest-end ds d = rest [] ds (subst (λ ws. Derives G ds ws) (sym (append-nil (l .words))) d)
 
   too-long : (ds qs : List ℕ) → reverse ds ≡ l .rules ++ qs → length ds ≤ 768 → 768 - length (l .rules) < length qs → ⊥

@@ -15,6 +15,9 @@ pub mod MachineEnds
 pub mod OpenLines
 pub mod JudgedLines
 pub mod TakenWords
+pub mod MachineSteps
+pub mod Midway
+pub mod RefusedTurns
 pub mod Agreement
 pub mod Completion
 pub mod Moves

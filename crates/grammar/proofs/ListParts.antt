@@ -3,8 +3,7 @@ use mathlib.Core.Path.{_≡_, refl, ap}
 use mathlib.Core.List.{List, [], _∷_, _++_, tail-eq-of-cons-eq, nil≢cons}
 use mathlib.Core.Option.{some, Option·none-ne-some, Option·some-injective}
 use Prim.Native.Nat.{ℕ, zero, suc}
-use lib.ListN.{length, take, drop, getElem?, take-append-drop}
-use mathlib.Core.Path.{sym, _∙_}
+use lib.ListN.{length, take, drop, getElem?}
 
 pub getElem-append : (α : List ℕ) (X : ℕ) (β : List ℕ) → getElem? (α ++ X ∷ β) (length α) ≡ some X
 getElem-append [] X β = refl
@@ -29,6 +28,3 @@ pub drop-at-code : (l : List ℕ) (d X : ℕ) → getElem? l d ≡ some X → dr
 drop-at-code [] d X e = absurd (Option·none-ne-some _ e)
 drop-at-code (x ∷ l) zero X e = ap (λ y. y ∷ l) (Option·some-injective _ _ e)
 drop-at-code (x ∷ l) (suc d) X e = drop-at-code l d X e
-
-pub split-at-code : (l : List ℕ) (d X : ℕ) → getElem? l d ≡ some X → l ≡ take d l ++ X ∷ drop (suc d) l
-split-at-code l d X e = sym (take-append-drop d l) ∙ ap (λ m. take d l ++ m) (drop-at-code l d X e)

@@ -1,19 +1,19 @@
 -- Where an open line stands: behind its words, whatever comes next.
-use mathlib.Core.Path.{_≡_, refl, sym, ap, subst, _∙_}
+use mathlib.Core.Path.{_≡_, refl, ap, subst}
 use mathlib.Core.Bool.{Bool, true, false, cond, not}
 use mathlib.Core.List.{List, [], _∷_, _++_, append-assoc}
-use mathlib.Core.Option.{Option, some}
+use mathlib.Core.Option.{Option}
 use Prim.Native.Nat.{ℕ, _+_, _-_, _≤_, _<_}
 use native.Mathlib.Omega.{arith}
 use borrow.Author.Tests.{leb-false}
 use lib.Dec.{leb}
-use lib.ListN.{length, drop, length-append, length-drop}
+use lib.ListN.{length, length-append, length-drop}
 use Rattle.grammar.specs.Grammar.{Grammar, rightSide}
 use Rattle.grammar.specs.Derivation.{isTerminal}
 use Rattle.grammar.specs.States.{Automaton}
 use Rattle.grammar.specs.Cells.{Exact}
 use Rattle.grammar.specs.Machine.{Run, halt, shift, reduce}
-use Rattle.grammar.specs.Line.{Line, Ended, stuck, full, shifted, accepted, runs, Turned, after, refused, afterWord, takeWord, Open, fresh, taken}
+use Rattle.grammar.specs.Line.{Line, Ended, stuck, full, shifted, accepted, runs, after, refused, afterWord, Open, fresh, taken}
 use Rattle.grammar.specs.declared.action.Action.{Action}
 use Rattle.grammar.proofs.Runs.{then}
 use Rattle.grammar.proofs.MachineEnds.{Says, says}
@@ -57,8 +57,11 @@ module _ {G : Grammar} {A : Automaton} where
   depth (shift h x) = omega (arith, depth x)
   depth (reduce {s = s} {r = r} {σ = σ} h d g x) = omega (arith, depth x, ap length d, length-drop (length (rightSide G r)) (s ∷ σ))
 
+  pub deep : (us : List ℕ) {j ps τ : List ℕ} → Run G A (0 ∷ []) (us ++ j) ps τ j → length τ ≤ 1 + length us + length ps
+  deep us {j} x = omega (arith, depth x, length-append us j)
+
   pub states-of : (l : Line) → Standing G A l → length (l .states) ≤ 1 + length (l .words) + length (l .rules)
-  states-of l st = omega (arith, depth (st .run []), length-append (l .words) [])
+  states-of l st = deep (l .words) (st .run [])
 
 -- Every open line stands behind its words.
 pub standing : (G : Grammar) (A : Automaton) (cells : ℕ → ℕ → Option Action) → Exact G A cells → {l : Line} → Open G A cells l → Standing G A l

@@ -1,12 +1,11 @@
 -- A reduction of a cell has its item in the state, with the dot behind the whole right side.
-use mathlib.Core.Path.{_≡_, refl, sym}
+use mathlib.Core.Path.{sym}
 use mathlib.Core.List.{[], append-nil}
-use mathlib.Core.Option.{some}
 use Prim.Native.Nat.{ℕ}
 use lib.ListN.{length}
-use Rattle.grammar.specs.Grammar.{Grammar, IsRule, leftSide, rightSide}
+use Rattle.grammar.specs.Grammar.{Grammar, IsRule, rightSide}
 use Rattle.grammar.specs.States.{Automaton, Laws}
-use Rattle.grammar.specs.Lookahead.{Star, stop, go, Transition, Reads, Includes, Read, Follow, Lookahead}
+use Rattle.grammar.specs.Lookahead.{Star, stop, go, Transition, Reads, Includes, Follow, Lookahead}
 use Rattle.grammar.specs.Cells.{Holds, may-reduce}
 use Rattle.grammar.specs.declared.action.Action.the-variants.{Reduce}
 use Rattle.grammar.proofs.Dots.{Has, begins, along-codes}

@@ -9,7 +9,7 @@ use lib.Seq.{take-length}
 use Rattle.grammar.specs.Grammar.{Grammar, IsRule, leftSide, rightSide, start}
 use Rattle.grammar.specs.Trees.{Forest, empty, leaf, TreeOf}
 use Rattle.grammar.specs.States.{Automaton, Laws, Made, moved, at-origin, closure}
-use Rattle.grammar.specs.Cells.{Holds, may-shift, may-accept, may-reduce}
+use Rattle.grammar.specs.Cells.{Holds, may-shift, may-accept}
 use Rattle.grammar.specs.Machine.{Run, halt, shift, reduce, Accepts, accept, AcceptsWords, Spells, bottom, push}
 use Rattle.grammar.specs.declared.action.Action.the-variants.{Shift, Accept, Reduce}
 use Rattle.grammar.proofs.ListParts.{take-suc-at}

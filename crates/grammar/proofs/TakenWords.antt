@@ -1,9 +1,9 @@
 -- A word that comes to an open line below its limits is taken exactly when some sentence begins so.
 use mathlib.Core.Path.{_≡_, refl, sym, ap, subst, _∙_}
 use mathlib.Core.Bool.{Bool, true, false, cond, not}
-use mathlib.Core.List.{List, [], _∷_, _++_, append-assoc, append-nil}
+use mathlib.Core.List.{List, [], _∷_, _++_, append-assoc}
 use mathlib.Core.Option.{Option}
-use Prim.Native.Nat.{ℕ, _+_, _-_, _≤_, _<_}
+use Prim.Native.Nat.{ℕ, _+_, _-_, _<_}
 use native.Mathlib.Omega.{arith}
 use borrow.Author.Tests.{lt-leb}
 use lib.Dec.{leb}
@@ -13,7 +13,7 @@ use Rattle.grammar.specs.Trees.{AllProductive}
 use Rattle.grammar.specs.Derivation.{Derives, Begins, isTerminal}
 use Rattle.grammar.specs.States.{Automaton, Laws}
 use Rattle.grammar.specs.Cells.{Exact}
-use Rattle.grammar.specs.Machine.{Run, halt, reduce, Accepts, FewReductions}
+use Rattle.grammar.specs.Machine.{halt, reduce, FewReductions}
 use Rattle.grammar.specs.Line.{Line, Ended, stuck, full, shifted, accepted, runs, Turned, after, refused, afterWord, takeWord, Open, taken}
 use Rattle.grammar.specs.declared.action.Action.{Action}
 use Rattle.grammar.proofs.Forests.{terminals-of}
@@ -48,7 +48,7 @@ begins-terminal {G} v us w b = middle-terminal G us w (b .0) (terminals-of (tree
 
 module _ {G : Grammar} {A : Automaton} (v : Valid G) (L : Laws G A) (cells : ℕ → ℕ → Option Action) (exact : Exact G A cells) (l : Line) (w : ℕ) (st : Standing G A l) where
   -- Room for no further rule: a run over the words and w makes a 769th reduction.
-  overfull : FewReductions G A (l .words ++ w ∷ []) → Says G A (768 - length (l .rules)) w (l .states) full → ⊥
+  pub overfull : FewReductions G A (l .words ++ w ∷ []) → Says G A (768 - length (l .rules)) w (l .states) full → ⊥
   overfull few s =
       let y = s [] in
       let r = then (st .run (w ∷ [])) (y .4) in
