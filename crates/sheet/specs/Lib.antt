@@ -1,1 +1,4 @@
 pub mod Readings
+pub mod Tokens
+pub mod Statements
+pub mod Form
