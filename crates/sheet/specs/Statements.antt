@@ -1,10 +1,10 @@
 -- The statements of a written sheet, and the grammar that they mean.
 use mathlib.Core.Path.{_≡_}
-use mathlib.Core.Bool.{Bool, true, false, _&&_, _||_, cond}
+use mathlib.Core.Bool.{Bool, true, false, _||_, cond}
 use mathlib.Core.List.{List, [], _∷_, _++_, map}
 use Prim.Native.Nat.{ℕ, zero, suc, _+_}
-use lib.Dec.{eqb}
 use lib.ListN.{length}
+use Rattle.std.specs.shelf.Text.{sameBytes}
 use Rattle.grammar.specs.Grammar.{Rule, Grammar}
 use Rattle.sheet.specs.Tokens.{Token, name, word, colon, bar, semicolon, Placed, tokens, Laid}
 
@@ -40,21 +40,15 @@ pub record Written (text : List ℕ) (ts : List Placed) (ss : List Statement) : 
   pub laid : Laid 0 ts text
   pub tokens-are : tokens ts ≡ sheetTokens ss
 
--- Two spellings are alike when their bytes are equal.
-unfoldable pub alike : List ℕ → List ℕ → Bool
-alike [] [] = true
-alike [] (b ∷ bs) = false
-alike (a ∷ as′) [] = false
-alike (a ∷ as′) (b ∷ bs) = eqb a b && alike as′ bs
-
+-- Two spellings are alike when their bytes are equal; a spelling is in a list when one alike is.
 unfoldable pub member : List ℕ → List (List ℕ) → Bool
 member x [] = false
-member x (y ∷ ys) = alike x y || member x ys
+member x (y ∷ ys) = sameBytes x y || member x ys
 
 -- How many stand before the spelling in a list.
 unfoldable pub indexOf : List ℕ → List (List ℕ) → ℕ
 indexOf x [] = 0
-indexOf x (y ∷ ys) = cond (alike x y) 0 (suc (indexOf x ys))
+indexOf x (y ∷ ys) = cond (sameBytes x y) 0 (suc (indexOf x ys))
 
 -- A list of spellings with one more, unless it is there already.
 unfoldable pub noted : List (List ℕ) → List ℕ → List (List ℕ)
