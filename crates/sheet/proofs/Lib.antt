@@ -1,3 +1,4 @@
 pub mod Fronts
 pub mod Laying
 pub mod FirstToken
+pub mod SpelledTables

@@ -3,3 +3,4 @@ pub mod Tokens
 pub mod Statements
 pub mod Form
 pub mod Lexing
+pub mod Spelled

@@ -1,5 +1,6 @@
 // Rule sheets: what any sheet tells, and its kinds.
 mod lexer;
 mod rule_sheet;
+mod spellings;
 
 pub use rule_sheet::RuleSheet;
