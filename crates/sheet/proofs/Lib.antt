@@ -1,4 +1,5 @@
 pub mod Fronts
 pub mod Laying
 pub mod FirstToken
-pub mod SpelledTables
+pub mod Indexes
+pub mod Tables

@@ -4,3 +4,4 @@ pub mod Statements
 pub mod Form
 pub mod Lexing
 pub mod Spelled
+pub mod RuleTables

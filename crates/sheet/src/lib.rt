@@ -1,6 +1,8 @@
 // Rule sheets: what any sheet tells, and its kinds.
 mod lexer;
 mod rule_sheet;
+mod rule_table;
+mod short_rule;
 mod spellings;
 
 pub use rule_sheet::RuleSheet;

@@ -39,7 +39,8 @@ impl<'a> Spellings<'a> {
 
     // How many stand before the spelling; all of them, if it is not there.
     pub fn find(&self, spelling: &[u8]) -> usize
-        ensures { λ r. ⌜ r ≡ indexOf (now (spelling .entry)) (spelled (now (self .entry))) ⌝ }
+        ensures value { λ r. ⌜ r ≡ indexOf (now (spelling .entry)) (spelled (now (self .entry))) ⌝ }
+        ensures few { λ r. ⌜ r ≤ 63 ⌝ }
     {
         for i in 0..self.count {
             let item = self.items[i];

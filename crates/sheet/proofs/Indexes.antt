@@ -1,17 +1,13 @@
--- Tables of spellings, by their lists.
+-- Where a spelling stands in a list of spellings.
 use mathlib.Core.Path.{_≡_, refl, sym, ap, subst, _∙_}
 use mathlib.Core.Logic.{_⊎_, inl, inr, ⊎-elim}
 use mathlib.Core.Bool.{Bool, true, false, _||_, cond}
-use mathlib.Core.List.{List, [], _∷_, _++_, map}
+use mathlib.Core.List.{List, [], _∷_, _++_}
 use Prim.Native.Nat.{ℕ, zero, suc, _+_, _<_, _≤_}
-use denote.Ref.{RefT}
 use native.Mathlib.Omega.{arith}
-use lib.ListN.{length, getD, take, drop, set}
-use Rattle.std.specs.Finite.{nth}
+use lib.ListN.{length, getD, drop}
 use Rattle.std.specs.shelf.Text.{sameBytes}
-use Rattle.std.specs.declared.option.Option.the-variants.{Some, None}
-use Rattle.std.proofs.shelf.Lists.{length-map, length-take-le, length-append, length-push, getD-map, getD-take, map-push, take-more-set, drop-more, drop-all}
-use Rattle.std.proofs.shelf.Maps.{nth-getD, nth-past}
+use Rattle.std.proofs.shelf.Lists.{drop-more, drop-all}
 use Rattle.std.proofs.shelf.Tests.{cond-true, cond-false, cases-bool, or-left, or-right, or-from}
 use Rattle.sheet.specs.Statements.{member, indexOf, noted}
 
@@ -62,25 +58,3 @@ noted-old xs x h = sym (cond-true (member x xs) xs (xs ++ x ∷ []) (member-inde
 pub noted-new : (xs : List (List ℕ)) (x : List ℕ) → length xs ≤ indexOf x xs → xs ++ x ∷ [] ≡ noted xs x
 unfolding noted
 noted-new xs x h = sym (cond-false (member x xs) xs (xs ++ x ∷ []) (no-member-index x xs h))
-
--- The list of a table of parts of a text.
-module _ (items : List (RefT (List ℕ))) (n : ℕ) (fits : n ≤ length items) where
-  abbrev held : List (List ℕ)
-  held = map (λ r. r .now) (take n items)
-
-  pub held-length : length held ≡ n
-  held-length = length-map (take n items) (λ r. r .now) ∙ length-take-le n items fits
-
-  pub held-at : (i : ℕ) (d : RefT (List ℕ)) → i < n → getD held i [] ≡ getD items i d .now
-  held-at i d h =
-      let some : i < length (take n items) = let l = length-take-le n items fits in omega arith in
-      getD-map (λ r. r .now) (take n items) i d [] some ∙ ap (λ r. r .now) (getD-take n items i d h)
-
-  pub held-nth : (i : ℕ) (d : RefT (List ℕ)) → i < n → Some (getD items i d .now) ≡ nth held i
-  held-nth i d h = let l = held-length in sym (nth-getD held i [] (omega arith) ∙ ap Some (held-at i d h))
-
-  pub held-past : (i : ℕ) → n ≤ i → None ≡ nth held i
-  held-past i h = let l = held-length in sym (nth-past held i (omega arith))
-
-pub held-more : (items : List (RefT (List ℕ))) (n : ℕ) (r : RefT (List ℕ)) → n < length items → map (λ r. r .now) (take (n + 1) (set items n r)) ≡ map (λ r. r .now) (take n items) ++ r .now ∷ []
-held-more items n r h = ap (map (λ r. r .now)) (take-more-set items n r h) ∙ map-push (λ r. r .now) (take n items) r
