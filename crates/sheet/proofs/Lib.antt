@@ -3,3 +3,5 @@ pub mod Laying
 pub mod FirstToken
 pub mod Indexes
 pub mod Tables
+pub mod Walking
+pub mod Picking

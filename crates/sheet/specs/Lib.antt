@@ -5,3 +5,4 @@ pub mod Form
 pub mod Lexing
 pub mod Spelled
 pub mod RuleTables
+pub mod Walks

@@ -4,5 +4,6 @@ mod rule_sheet;
 mod rule_table;
 mod short_rule;
 mod spellings;
+mod walk;
 
 pub use rule_sheet::RuleSheet;
