@@ -5,3 +5,4 @@ pub mod Indexes
 pub mod Tables
 pub mod Walking
 pub mod Picking
+pub mod Drafting

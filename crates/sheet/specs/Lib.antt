@@ -6,3 +6,4 @@ pub mod Lexing
 pub mod Spelled
 pub mod RuleTables
 pub mod Walks
+pub mod Drafts

@@ -1,4 +1,5 @@
 // Rule sheets: what any sheet tells, and its kinds.
+mod draft;
 mod lexer;
 mod rule_sheet;
 mod rule_table;

@@ -19,6 +19,13 @@ impl ShortRule {
         }
     }
 
+    // Gives the rule another left side.
+    pub fn set_left(&mut self, left: u16)
+        ensures { λ _. ⌜ shortRule (now (self .exit)) ≡ record { left = left; right = shortRule (now (self .entry)) .right } ⌝ }
+    {
+        self.left = left;
+    }
+
     // The left side.
     pub fn left(&self) -> u16
         ensures { λ r. ⌜ r ≡ shortRule (now (self .entry)) .left ⌝ }
