@@ -6,3 +6,5 @@ pub mod Tables
 pub mod Walking
 pub mod Picking
 pub mod Drafting
+pub mod Overfull
+pub mod PickedSheets

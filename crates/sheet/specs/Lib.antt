@@ -7,3 +7,4 @@ pub mod Spelled
 pub mod RuleTables
 pub mod Walks
 pub mod Drafts
+pub mod WrittenSheets
