@@ -2,3 +2,5 @@
 mod rule_sheet;
 
 pub use rule_sheet::RuleSheet;
+
+mod form;

@@ -1,0 +1,5 @@
+pub mod Expected
+pub mod Runs
+pub mod FormComplete
+pub mod FormSound
+pub mod FormViable
