@@ -3,3 +3,4 @@ pub mod Runs
 pub mod FormComplete
 pub mod FormSound
 pub mod FormViable
+pub mod FormVerdict
