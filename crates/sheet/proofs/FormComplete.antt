@@ -1,29 +1,20 @@
 -- A text that is laid of the tokens of statements is read to its end.
 use mathlib.Core.Path.{_≡_, refl, sym, ap, subst, _∙_}
-use mathlib.Core.Logic.{⊎-elim}
-use mathlib.Core.Bool.{Bool, true, false, not, _&&_, cond}
+use mathlib.Core.Bool.{true, cond}
 use mathlib.Core.List.{List, [], _∷_, _++_, append-assoc}
-use Prim.Native.Nat.{ℕ, suc, _+_, _≤_, _<_}
+use Prim.Native.Nat.{ℕ, _+_, _≤_}
 use native.Mathlib.Omega.{arith}
-use lib.Dec.{leb, ltb, eqb}
+use lib.Dec.{ltb}
 use lib.ListN.{length}
-use Rattle.std.proofs.shelf.Tests.{both-ways, or-cases, and-parts, and-from, not-true, ne-eqb, eqb-true, lt-ltb, cases-bool, cond-true, cond-false}
-use Rattle.std.specs.declared.option.Option.{Option}
+use Rattle.std.proofs.shelf.Tests.{and-from, lt-ltb, cond-true, cond-false}
 use Rattle.std.specs.declared.option.Option.the-variants.{Some, None}
-use Rattle.sheet.specs.Tokens.{Token, name, word, colon, bar, semicolon, spelling, blank, letter, quotable, Each, Bytes, Proper, NoLetter, Ends, Placed, tokens, Laid, nothing, divider, token}
+use Rattle.sheet.specs.Tokens.{Token, name, word, spelling, blank, letter, quotable, Each, Bytes, Proper, NoLetter, Ends, Placed, tokens, Laid, nothing, divider, token}
 use Rattle.sheet.specs.Stages.{next, run}
 use Rattle.sheet.specs.declared.form.Stage.{Stage}
 use Rattle.sheet.specs.declared.form.Stage.the-variants.{Between, Head, Headed, Body, Name, Word}
-use Rattle.sheet.proofs.Expected.{Takes, head, opens, names, quotes, divides, closes, Expects}
-use Rattle.sheet.proofs.Runs.{Ended}
-
--- A letter is no blank.
-pub letter-dark : (b : ℕ) → letter b ≡ true → blank b ≡ false
-letter-dark b y =
-    ⊎-elim
-    (λ light. absurd (⊎-elim (λ e. both-ways (letter 32) refl (ap letter (sym (eqb-true b 32 e)) ∙ y)) (λ e. both-ways (letter 10) refl (ap letter (sym (eqb-true b 10 e)) ∙ y)) (or-cases _ _ light)))
-    (λ dark. dark)
-    (cases-bool (blank b))
+use Rattle.sheet.proofs.ExpectedTokens.{Takes, head, opens, names, quotes, divides, closes, Expects}
+use Rattle.sheet.proofs.TokenBytes.{letter-dark, quotable-inner}
+use Rattle.sheet.proofs.FormRuns.{Ended}
 
 -- A name is read through, from a stage in it to the one behind it.
 module _
@@ -47,9 +38,9 @@ module _
 word-through : (n : ℕ) (l rest : List ℕ) → Each quotable l → 1 ≤ n + length l → n + length l ≤ 24 → Ended (Some Body) rest → Ended (Some (Word n)) (l ++ (34 ∷ rest))
 word-through n [] rest each some-byte few h = ap (λ o. run o rest) (cond-true _ _ _ (lt-ltb 0 n (omega arith))) ∙ h
 word-through n (b ∷ l) rest each some-byte few h =
-    let open-quote : eqb b 34 ≡ false = not-true (eqb b 34) (and-parts (leb 33 b && leb b 126) (not (eqb b 34)) (each .0) .1) in
+    let unclosed = quotable-inner b (each .0) in
     let fits = and-from _ _ (each .0) (lt-ltb n 24 (omega arith)) in
-    ap (λ o. run o (l ++ (34 ∷ rest))) (cond-false _ _ _ open-quote ∙ cond-true _ _ _ fits) ∙ word-through (n + 1) l rest (each .1) (omega arith) (omega arith) h
+    ap (λ o. run o (l ++ (34 ∷ rest))) (cond-false _ _ _ unclosed ∙ cond-true _ _ _ fits) ∙ word-through (n + 1) l rest (each .1) (omega arith) (omega arith) h
 
 headed-unended : Headed ≡ Between → ⊥
 headed-unended e = let z : _≡_ {A = ℕ} 0 1 = cc in omega arith

@@ -1,20 +1,19 @@
 -- A text that is read to its end is laid of the tokens of statements.
 use mathlib.Core.Path.{_≡_, refl, sym, ap, subst, _∙_}
-use mathlib.Core.Bool.{Bool, true, false, _&&_, cond}
+use mathlib.Core.Bool.{true, cond}
 use mathlib.Core.List.{List, [], _∷_, _++_, append-assoc}
-use Prim.Native.Nat.{ℕ, suc, _+_, _≤_, _<_}
+use Prim.Native.Nat.{ℕ, suc, _+_, _≤_}
 use native.Mathlib.Omega.{arith}
-use lib.Dec.{ltb, eqb}
+use lib.Dec.{ltb}
 use lib.ListN.{length}
 use Rattle.std.proofs.shelf.Tests.{and-parts, eqb-true, ltb-true}
-use Rattle.std.specs.declared.option.Option.{Option}
 use Rattle.std.specs.declared.option.Option.the-variants.{Some, None}
-use Rattle.sheet.specs.Tokens.{Token, name, word, colon, bar, semicolon, spelling, blank, letter, quotable, Each, Bytes, Proper, NoLetter, Ends, Placed, tokens, Laid, nothing, divider, token}
-use Rattle.sheet.specs.Stages.{next, run}
+use Rattle.sheet.specs.Tokens.{Token, name, word, colon, bar, semicolon, spelling, blank, letter, quotable, Each, Proper, NoLetter, Ends, Placed, tokens, Laid, nothing, divider, token}
+use Rattle.sheet.specs.Stages.{next}
 use Rattle.sheet.specs.declared.form.Stage.{Stage}
 use Rattle.sheet.specs.declared.form.Stage.the-variants.{Between, Head, Headed, Body, Name, Word}
-use Rattle.sheet.proofs.Expected.{Takes, head, opens, names, quotes, divides, closes, Expects}
-use Rattle.sheet.proofs.Runs.{Ended, none-ended, ended-cases}
+use Rattle.sheet.proofs.ExpectedTokens.{Takes, head, opens, names, quotes, divides, closes, Expects}
+use Rattle.sheet.proofs.FormRuns.{Ended, none-ended, ended-cases}
 
 -- From the place on, the bytes are laid of tokens that lead from the stage to the end of a sheet.
 pub record Reads (s : Stage) (bs : List ℕ) (at : ℕ) : Type 0 where

@@ -1,17 +1,17 @@
 -- What follows for a text once its bytes before a place are read.
 use mathlib.Core.Path.{_≡_, refl, sym, ap, subst, _∙_}
-use mathlib.Core.List.{List, [], _∷_, _++_}
+use mathlib.Core.List.{List, [], _∷_}
 use Prim.Native.Nat.{ℕ, suc, _+_, _<_, _≤_}
 use native.Mathlib.Numerals.{add-one}
 use native.Mathlib.Omega.{arith}
 use lib.ListN.{length, getD, take, drop, take-append-drop}
 use Rattle.std.proofs.shelf.Lists.{take-all, take-more}
 use Rattle.std.specs.declared.option.Option.the-variants.{Some, None}
-use Rattle.sheet.specs.Form.{WellFormed, Viable, Misplaced}
+use Rattle.sheet.specs.Form.{WellFormed, Misplaced}
 use Rattle.sheet.specs.Stages.{onward, next, run}
 use Rattle.sheet.specs.declared.form.Stage.{Stage}
 use Rattle.sheet.specs.declared.form.Stage.the-variants.{Between}
-use Rattle.sheet.proofs.Runs.{run-append}
+use Rattle.sheet.proofs.FormRuns.{run-append}
 use Rattle.sheet.proofs.FormViable.{well-formed-ended, ended-well-formed, viable-run, fault-not-viable}
 
 -- The bytes before the place are read, to the stage; and what to tell if the next cannot be read, and at the end of the text.

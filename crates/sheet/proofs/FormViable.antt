@@ -5,15 +5,14 @@ use Prim.Native.Nat.{ℕ, zero, suc}
 use native.Mathlib.Omega.{arith}
 use lib.Dec.{ltb}
 use Rattle.std.proofs.shelf.Tests.{cond-true, lt-ltb}
-use Rattle.std.specs.declared.option.Option.{Option}
 use Rattle.std.specs.declared.option.Option.the-variants.{Some, None}
 use Rattle.sheet.specs.Form.{WellFormed, Viable}
 use Rattle.sheet.specs.Stages.{run}
 use Rattle.sheet.specs.Tokens.{tokens}
 use Rattle.sheet.specs.declared.form.Stage.{Stage}
 use Rattle.sheet.specs.declared.form.Stage.the-variants.{Between, Head, Headed, Body, Name, Word}
-use Rattle.sheet.proofs.Expected.{Expects, statements-told, statements-expected}
-use Rattle.sheet.proofs.Runs.{Ended, run-append, none-ended}
+use Rattle.sheet.proofs.ExpectedTokens.{Expects, statements-told, statements-expected}
+use Rattle.sheet.proofs.FormRuns.{Ended, run-append, none-ended}
 use Rattle.sheet.proofs.FormComplete.{complete}
 use Rattle.sheet.proofs.FormSound.{sound}
 

@@ -1,6 +1,10 @@
-pub mod Expected
-pub mod Runs
+pub mod TokenBytes
+pub mod ExpectedTokens
+pub mod FormRuns
 pub mod FormComplete
 pub mod FormSound
 pub mod FormViable
 pub mod FormVerdict
+pub mod UniqueTokens
+pub mod UniqueStatements
+pub mod UniqueFault

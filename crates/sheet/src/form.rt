@@ -118,3 +118,24 @@ pub fn misplaced(text: &[u8]) -> Option<usize>
         _ => Some(text.len()),
     }
 }
+
+#[cfg(test)]
+mod tests {
+    use super::*;
+    use std::test::*;
+
+    #[test]
+    fn tells_the_first_misplaced_byte() -> Result<(), Fail> {
+        check_eq(misplaced(b""), None)?;
+        check_eq(misplaced(b"Meal : Soup \"and\" bread | ;\nSoup:;"), None)?;
+        check_eq(misplaced(b"a:b\"c\"d|\"e\"\"f\";"), None)?;
+        check_eq(misplaced(b"a:;b"), Some(4))?;
+        check_eq(misplaced(b"a b:;"), Some(2))?;
+        check_eq(misplaced(b"a:b:"), Some(3))?;
+        check_eq(misplaced(b"a:\"\";"), Some(3))?;
+        check_eq(misplaced(b"a:\"b c\";"), Some(4))?;
+        check_eq(misplaced(b"a:\t;"), Some(2))?;
+        check_eq(misplaced(b"abcdefghijklmnopqrstuvwx:;"), None)?;
+        check_eq(misplaced(b"abcdefghijklmnopqrstuvwxy:;"), Some(24))
+    }
+}

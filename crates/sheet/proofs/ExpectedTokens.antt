@@ -3,7 +3,7 @@ use mathlib.Core.Path.{_≡_, refl, sym, ap, subst, _∙_}
 use mathlib.Core.List.{List, [], _∷_, _++_, map, append-assoc}
 use Prim.Native.Nat.{ℕ}
 use Rattle.sheet.specs.Tokens.{Token, name, word, colon, bar, semicolon}
-use Rattle.sheet.specs.Statements.{Symbol, named, quoted, Statement, symbolToken, moreTokens, statementTokens, sheetTokens}
+use Rattle.sheet.specs.Statements.{Symbol, named, quoted, Statement, symbolToken, moreTokens, sheetTokens}
 use Rattle.sheet.specs.declared.form.Stage.{Stage}
 use Rattle.sheet.specs.declared.form.Stage.the-variants.{Between, Head, Headed, Body, Name, Word}
 
