@@ -31,6 +31,7 @@ next Body b = nextBody b
 next (Name n) b = cond (letter b) (cond (ltb n 24) (Some (Name (n + 1))) None) (nextBody b)
 next (Word n) b = cond (eqb b 34) (cond (ltb 0 n) (Some Body) None) (cond (quotable b && ltb n 24) (Some (Word (n + 1))) None)
 
+-- The same from a stage that there may be; nothing follows a fault.
 abbrev pub onward : Option Stage → ℕ → Option Stage
 onward None b = None
 onward (Some s) b = next s b
