@@ -8,3 +8,13 @@ pub mod Picking
 pub mod Drafting
 pub mod Overfull
 pub mod PickedSheets
+pub mod TokenBytes
+pub mod ExpectedTokens
+pub mod FormRuns
+pub mod FormComplete
+pub mod FormSound
+pub mod FormViable
+pub mod FormVerdict
+pub mod UniqueTokens
+pub mod UniqueStatements
+pub mod UniqueFault

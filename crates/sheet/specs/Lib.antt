@@ -8,3 +8,4 @@ pub mod RuleTables
 pub mod Walks
 pub mod Drafts
 pub mod WrittenSheets
+pub mod Stages

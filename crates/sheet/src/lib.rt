@@ -8,3 +8,5 @@ mod spellings;
 mod walk;
 
 pub use rule_sheet::RuleSheet;
+
+mod form;
