@@ -46,19 +46,19 @@ module _ (T N : List (List ℕ)) where
   after-long (bar ∷ ts) d h e = let later = after-rules ts (draftStep T N d bar) in (d .rules, d .rule, later .0, later .1 ∙ append-assoc (d .rules) (d .rule ∷ []) (later .0), h)
   after-long (semicolon ∷ ts) d h e = let later = after-rules ts (draftStep T N d semicolon) in (d .rules, d .rule, later .0, later .1 ∙ append-assoc (d .rules) (d .rule ∷ []) (later .0), h)
 
-  all-at : {P : Rule → Type 0} (before : List Rule) (r : Rule) (more : List Rule) → All P (before ++ r ∷ more) → P r
-  all-at [] r more a = a .0
-  all-at (x ∷ before) r more a = all-at before r more (a .1)
+  all-at : (P : Rule → Type 0) (before : List Rule) (r : Rule) (more : List Rule) → All P (before ++ r ∷ more) → P r
+  all-at P [] r more a = a .0
+  all-at P (x ∷ before) r more a = all-at P before r more (a .1)
 
   pub overfull-fails : (ts : List Token) (d : Drafted) → Overfull d → draftAfter T N d ts .rule .right ≡ [] → Fitting (draftAfter T N d ts .rules) → ⊥
   overfull-fails ts d o e f =
       ⊎-elim
       (λ long.
-          let bad = after-long ts d long e in
-          let here = all-at {P = λ r. length (r .right) ≤ 8} (bad .0) (bad .1) (bad .2) (subst (All (λ r. length (r .right) ≤ 8)) (bad .3) (f .short)) in
-          omega (arith, bad .4))
+      let bad = after-long ts d long e in
+      let here = all-at (λ r. length (r .right) ≤ 8) (bad .0) (bad .1) (bad .2) (subst (All (λ r. length (r .right) ≤ 8)) (bad .3) (f .short)) in
+      omega (arith, bad .4))
       (λ many.
-          let later = after-rules ts d in
-          let size = length-append (d .rules) (later .0) in
-          omega (arith, ap length (later .1), f .few))
+      let later = after-rules ts d in
+      let size = length-append (d .rules) (later .0) in
+      omega (arith, ap length (later .1), f .few))
       o

@@ -1,9 +1,10 @@
 -- What opening a written sheet comes to.
 use mathlib.Core.Path.{_≡_}
-use mathlib.Core.Bool.{Bool, true, false}
-use mathlib.Core.List.{List, [], _∷_, map}
+use mathlib.Core.Bool.{Bool, true, false, cond}
+use mathlib.Core.List.{List, [], _∷_, _++_, map}
 use Prim.Native.Nat.{ℕ, zero, suc, _+_}
 use lib.ListN.{length}
+use Rattle.std.specs.Finite.{nth}
 use Rattle.std.specs.declared.option.Option.{Option}
 use Rattle.std.specs.declared.option.Option.the-variants.{Some, None}
 use Rattle.std.specs.declared.result.Result.{Result}
@@ -13,7 +14,7 @@ use Rattle.grammar.specs.Outcome.{Within}
 use Rattle.grammar.specs.Refusals.{told, number}
 use Rattle.grammar.specs.declared.refusal.Refusal.{Refusal}
 use Rattle.sheet.specs.Tokens.{Placed}
-use Rattle.sheet.specs.Statements.{Statement, Written, grammarOf, terminalsOf, nonterminalsOf}
+use Rattle.sheet.specs.Statements.{Statement, Written, grammarOf, terminalsOf, nonterminalsOf, member, indexOf}
 use Rattle.sheet.specs.Form.{Misplaced}
 use Rattle.sheet.specs.Walks.{firstHeadless}
 use Rattle.sheet.specs.RuleTables.{ruleList}
@@ -50,3 +51,12 @@ Opened text (Err e) G words heads = Refused text e × (G ≡ nothing) × (words 
 abbrev pub Filled : Bool → Grammar → List (List ℕ) → List (List ℕ) → List Statement → Type 0
 Filled true G words heads ss = Within (grammarOf ss) × (G ≡ grammarOf ss) × (words ≡ terminalsOf ss) × (heads ≡ nonterminalsOf ss)
 Filled false G words heads ss = Within (grammarOf ss) → ⊥
+
+-- The code of a word's spelling, if some word is spelled so.
+abbrev pub wordCodeTold : List (List ℕ) → List ℕ → Option ℕ
+wordCodeTold words x = cond (member x words) (Some (1 + indexOf x words)) None
+
+-- The spelling of a code: words first, then heads.
+abbrev pub spellingTold : List (List ℕ) → List (List ℕ) → ℕ → Option (List ℕ)
+spellingTold words heads zero = None
+spellingTold words heads (suc i) = nth (words ++ heads) i

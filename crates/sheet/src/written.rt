@@ -3,7 +3,7 @@ ghost use Rattle.grammar.specs.Grammar.{nothing};
 ghost use Rattle.sheet.specs.Spelled.{bytesOf, spelled};
 ghost use Rattle.sheet.specs.Statements.{Statement, Written};
 ghost use Rattle.sheet.specs.Tokens.{Placed};
-ghost use Rattle.sheet.specs.WrittenSheets.{Filled, Opened, codeTold, spellingTold, writtenGrammar};
+ghost use Rattle.sheet.specs.WrittenSheets.{Filled, Opened, spellingTold, wordCodeTold, writtenGrammar};
 ghost use Prim.Native.Nat.{ℕ};
 ghost use mathlib.Core.List.{List, []};
 ghost use mathlib.Core.Path.{_≡_};
@@ -57,8 +57,12 @@ impl<'a> WrittenSheet<'a> {
         if !draft.read(text, &self.words, &self.heads) {
             return false;
         }
+        let rules = draft.table.count();
+        if rules == 0 {
+            return false;
+        }
         self.table = draft.table;
-        self.table.count() != 0
+        true
     }
 
     // Opens a text; refused, the sheet has counts 0 and no rule.
@@ -77,5 +81,77 @@ impl<'a> WrittenSheet<'a> {
         }
         *self = WrittenSheet::new();
         Err(Refusal::Limits)
+    }
+
+    // The code of a word, by its spelling without quotes.
+    pub fn word_code(&self, spelling: &[u8]) -> Option<u16>
+        ensures { λ r. ⌜ r ≡ wordCodeTold (spelled (now (self .entry) .words)) (now (spelling .entry)) ⌝ }
+    {
+        let at = self.words.find(spelling);
+        if at < self.words.count() {
+            return Some(1 + at as u16);
+        }
+        None
+    }
+
+    // The spelling of a code: of a word without its quotes, or of a head.
+    pub fn spelling(&self, code: u16) -> Option<&'a [u8]>
+        ensures { λ r. ⌜ bytesOf r ≡ spellingTold (spelled (now (self .entry) .words)) (spelled (now (self .entry) .heads)) code ⌝ }
+    {
+        if code == 0 {
+            return None;
+        }
+        let i = code as usize - 1;
+        let words = self.words.count();
+        if i < words {
+            return self.words.spelling(i);
+        }
+        self.heads.spelling(i - words)
+    }
+}
+
+pub impl<'a> RuleSheet for WrittenSheet<'a> as WrittenRuleSheet {
+    ghost meaning = { writtenGrammar };
+
+    fn terminals(&self) -> u16 {
+        self.words.count() as u16
+    }
+
+    fn nonterminals(&self) -> u16 {
+        self.heads.count() as u16
+    }
+
+    fn rules(&self) -> u16 {
+        self.table.count()
+    }
+
+    fn left(&self, rule: u16) -> Option<u16> {
+        if rule == 0 {
+            return None;
+        }
+        match self.table.rule(rule as usize - 1) {
+            Some(found) => Some(found.left()),
+            None => None,
+        }
+    }
+
+    fn length(&self, rule: u16) -> Option<u16> {
+        if rule == 0 {
+            return None;
+        }
+        match self.table.rule(rule as usize - 1) {
+            Some(found) => Some(found.length()),
+            None => None,
+        }
+    }
+
+    fn code(&self, rule: u16, place: u16) -> Option<u16> {
+        if rule == 0 {
+            return None;
+        }
+        match self.table.rule(rule as usize - 1) {
+            Some(found) => found.code(place),
+            None => None,
+        }
     }
 }
