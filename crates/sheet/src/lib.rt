@@ -1,4 +1,8 @@
 // Rule sheets: what any sheet tells, and its kinds.
+mod packed;
 mod rule_sheet;
 
+pub use packed::PackedRuleSheet;
+pub use packed::PackedSheet;
+pub use packed::layout_laws;
 pub use rule_sheet::RuleSheet;
