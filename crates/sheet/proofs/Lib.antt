@@ -1,5 +1,7 @@
 pub mod Bodies
 pub mod Fronts
-pub mod Laws
 pub mod Numbers
+pub mod OffLayout
 pub mod Packings
+pub mod Ranges
+pub mod Supplemented

@@ -1,3 +1,4 @@
 pub mod Packing
 pub mod Packs
 pub mod Readings
+pub mod Supplements

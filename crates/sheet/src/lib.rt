@@ -1,10 +1,14 @@
 // Rule sheets: what any sheet tells, and its kinds.
+mod own_rule;
 mod packed;
 mod packing;
 mod rule_sheet;
+mod supplement;
 
 pub use packed::PackedRuleSheet;
 pub use packed::PackedSheet;
 pub use packed::layout_laws;
 pub use packing::pack;
 pub use rule_sheet::RuleSheet;
+pub use supplement::Supplement;
+pub use supplement::SupplementRuleSheet;

@@ -1,4 +1,4 @@
-use Rattle.sheet.proofs.Laws.{layout-laws}
+use Rattle.sheet.proofs.OffLayout.{layout-laws}
 use Rattle.sheet.proofs.packed.layout_laws.Needs as need
 
 pub returns : need.returns

@@ -1,7 +1,7 @@
 use mathlib.Core.Path.{sym, _∙_}
 use native.Mathlib.Omega.{arith}
 use Rattle.sheet.specs.Packing.Off.{missing}
-use Rattle.sheet.proofs.Laws.{off-at, off-behind, short-body}
+use Rattle.sheet.proofs.OffLayout.{off-at, off-behind, short-body}
 use Rattle.sheet.proofs.Packings.{lies-more}
 use Rattle.sheet.proofs.packed.off.Needs as need
 

@@ -1,7 +1,7 @@
 use mathlib.Core.Path.{refl}
 use Prim.Native.Nat.{_+_}
 use native.Mathlib.Omega.{arith}
-use lib.ListN.{set}
+use lib.ListN.{drop, set}
 use Rattle.std.proofs.shelf.Lists.{length-set}
 use Rattle.sheet.specs.Packing.{packed}
 use Rattle.sheet.proofs.Fronts.{front-on}
@@ -32,7 +32,7 @@ put-codes-requires g c κs =
     let once = length-set (c .args .out .now) (c .args .at) (c .unwrap-or .result) in
     let twice = length-set (set (c .args .out .now) (c .args .at) (c .unwrap-or .result)) (c .args .at + 1) (c .size-codes .result) in
     let head = head-written G (c .args .i) (c .args .at) (c .args .out .now) (c .unwrap-or .result) (c .size-codes .result) (c .pre .within) (c .pre .behind) (c .pre .room) (c .pre .front) (left-value G (c .args .i) (c .pre .within) (c .left .result) (c .unwrap-or .result) (c .left .ensures) (c .unwrap-or .ensures)) (c .size-codes .ensures) in
-    record { within = c .pre .within; small = c .pre .small; behind = omega arith; sized = c .size-codes .ensures; front = record { written = head .written; rest = refl }; room = omega arith }
+    record { within = c .pre .within; small = c .pre .small; behind = omega arith; sized = c .size-codes .ensures; front = record { written = head .written; rest = refl {a = drop (c .args .at + 2) (set (set (c .args .out .now) (c .args .at) (c .unwrap-or .result)) (c .args .at + 1) (c .size-codes .result))} }; room = omega arith }
 
 pub add-result : need.add-result
 add-result g c = omega (arith, end-within (g .S·RuleSheet .meaning (c .args .sheet .now)) (c .args .i) (c .pre .within))

@@ -1,6 +1,6 @@
 use mathlib.Core.Path.{refl, ap, _∙_}
 use Rattle.sheet.specs.Packing.{unpacked}
-use Rattle.sheet.proofs.Laws.{layout-laws}
+use Rattle.sheet.proofs.OffLayout.{layout-laws}
 use Rattle.sheet.proofs.Packings.{lies-packed, packed-means}
 use Rattle.sheet.proofs.packed.PackedSheet.open.Needs as need
 
