@@ -1,9 +1,13 @@
 // Rule sheets: what any sheet tells, and its kinds.
 mod own_rule;
 mod packed;
+#[cfg(test)]
+mod packed_tests;
 mod packing;
 mod rule_sheet;
 mod supplement;
+#[cfg(test)]
+mod supplement_tests;
 
 pub use packed::PackedRuleSheet;
 pub use packed::PackedSheet;
