@@ -21,3 +21,9 @@ pub mod UniqueFault
 pub mod FilledSheets
 pub mod JoinedLists
 pub mod ToldSpellings
+pub mod Bodies
+pub mod Numbers
+pub mod OffLayout
+pub mod Packings
+pub mod Ranges
+pub mod Supplemented

@@ -1,3 +1,5 @@
+pub mod Packing
+pub mod Packs
 pub mod Readings
 pub mod Tokens
 pub mod Statements
@@ -9,3 +11,4 @@ pub mod Walks
 pub mod Drafts
 pub mod WrittenSheets
 pub mod Stages
+pub mod Supplements

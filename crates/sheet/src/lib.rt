@@ -7,9 +7,23 @@ mod short_rule;
 mod spellings;
 mod walk;
 mod written;
+mod own_rule;
+mod packed;
+#[cfg(test)]
+mod packed_tests;
+mod packing;
+mod supplement;
+#[cfg(test)]
+mod supplement_tests;
 
+pub use packed::PackedRuleSheet;
+pub use packed::PackedSheet;
+pub use packed::layout_laws;
+pub use packing::pack;
 pub use rule_sheet::RuleSheet;
 pub use written::WrittenRuleSheet;
 pub use written::WrittenSheet;
 
 mod form;
+pub use supplement::Supplement;
+pub use supplement::SupplementRuleSheet;
