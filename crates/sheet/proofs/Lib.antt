@@ -27,3 +27,4 @@ pub mod OffLayout
 pub mod Packings
 pub mod Ranges
 pub mod Supplemented
+pub mod LeadingBytes

@@ -3,7 +3,7 @@ use mathlib.Core.Bool.{not}
 use native.Mathlib.Omega.{arith}
 use Rattle.std.proofs.shelf.Tests.{ne-eqb, eq-eqb}
 use Rattle.sheet.specs.Lexing.{notQuote}
-use Rattle.sheet.proofs.Fronts.{front-more, front-stop, front-end}
+use Rattle.sheet.proofs.LeadingBytes.{front-more, front-stop, front-end}
 use Rattle.sheet.proofs.lexer.closing.Needs as need
 
 pub loop-at-again : need.loop-at-again

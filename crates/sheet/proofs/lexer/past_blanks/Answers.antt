@@ -1,7 +1,7 @@
 use mathlib.Core.Path.{sym}
 use native.Mathlib.Omega.{arith}
 use Rattle.sheet.specs.Tokens.{blank}
-use Rattle.sheet.proofs.Fronts.{front-more, front-stop, front-end}
+use Rattle.sheet.proofs.LeadingBytes.{front-more, front-stop, front-end}
 use Rattle.sheet.proofs.lexer.past_blanks.Needs as need
 
 pub loop-at-again : need.loop-at-again
