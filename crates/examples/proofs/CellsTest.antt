@@ -17,7 +17,7 @@ use Rattle.grammar.specs.Cells.{Holds, may-shift, may-accept, may-reduce}
 use Rattle.grammar.specs.declared.action.Action.{Action}
 use Rattle.grammar.specs.declared.action.Action.the-variants.{Shift, Accept, Reduce}
 use Rattle.examples.specs.Tables.{samePair, lookup, itemsOf, automaton}
-use Rattle.examples.proofs.Tests.{all, implies, all-at, Equality, sameBoth, both, pairs, member, mem-from, mem-range, conj, parts}
+use Rattle.examples.proofs.Tests.{all, implies, all-at, Equality, sameBoth, both, pairs, member, mem-from, mem-range, conj, passed}
 use Rattle.examples.proofs.Codes.{terminal-from, terminal-to, rule-from, ruleNumbers, rule-number, code-from}
 use Rattle.examples.proofs.Lookup.{mem-lookup, beyond}
 use Rattle.examples.proofs.ItemsTest.{setOf}
@@ -68,11 +68,13 @@ abbrev pub hasAction : List Placed → Placed → Bool
 hasAction l p = member (sameBoth samePair sameAction) l p
 
 module _ (G : Grammar) (c : Certificate) where
+  -- The action belongs in the cell.
   abbrev heldBy : ℕ → ℕ → Action → Bool
   heldBy s w (Shift u) = isTerminal G w && codeIs (lookup (c .tables .moves) s w) u
   heldBy s w Accept = eqb w 0 && setOf (itemsOf (c .tables) s) 0 1
   heldBy s w (Reduce r) = isRule G r && inLookahead G c s r w
 
+  -- What a move, an accepting state and a follow set with a rule put into cells is listed.
   abbrev shiftListed : Entry → Bool
   shiftListed m = not (isTerminal G (m .0 .1)) || hasAction (c .tables .actions) (m .0, Shift (m .1))
 
@@ -102,14 +104,14 @@ module _ (G : Grammar) (c : Certificate) where
 
     pub holds-from : (s w : ℕ) (a : Action) → hasAction (c .tables .actions) ((s, w), a) ≡ true → Holds G (automaton (c .tables)) s w a
     unfolding cellsTests
-    holds-from s w a h = held s w a (all-at (λ p. heldBy (p .0 .0) (p .0 .1) (p .1)) (c .tables .actions) (parts cellsTests ok .0) (mem-from placed (c .tables .actions) ((s, w), a) h))
+    holds-from s w a h = held s w a (all-at (λ p. heldBy (p .0 .0) (p .0 .1) (p .1)) (c .tables .actions) (passed cellsTests ok 0) (mem-from placed (c .tables .actions) ((s, w), a) h))
 
     accepts : (s : ℕ) → setOf (itemsOf (c .tables) s) 0 1 ≡ true → hasAction (c .tables .actions) ((s, 0), Accept) ≡ true
     unfolding cellsTests
     accepts s h = pick (cases-lt s (length (c .tables .states)))
       where
         pick : (s < length (c .tables .states)) ⊎ (length (c .tables .states) ≤ s) → hasAction (c .tables .actions) ((s, 0), Accept) ≡ true
-        pick (inl l) = implies (setOf (itemsOf (c .tables) s) 0 1) _ (all-at acceptListed (stateNumbers (c .tables)) (parts cellsTests ok .1 .1 .0) (mem-range 0 (length (c .tables .states)) s (omega arith) (omega arith))) h
+        pick (inl l) = implies (setOf (itemsOf (c .tables) s) 0 1) _ (all-at acceptListed (stateNumbers (c .tables)) (passed cellsTests ok 2) (mem-range 0 (length (c .tables .states)) s (omega arith) (omega arith))) h
         pick (inr l) = absurd (false≢true (sym (ap (λ x. setOf x 0 1) (beyond (c .tables .states) s l)) ∙ h))
 
     reduces : (s w r : ℕ) → IsRule G r → Lookahead G (automaton (c .tables)) s r w → hasAction (c .tables .actions) ((s, w), Reduce r) ≡ true
@@ -117,11 +119,11 @@ module _ (G : Grammar) (c : Certificate) where
     reduces s w r i l =
         let e : Entry = ((l .back, leftSide G r), w) in
         let m = mem-from entries (c .follows) e (follows-to G c looks (l .back, leftSide G r) w (l .follow)) in
-        let k = implies (eqb (leftSide G r) (leftSide G r)) _ (all-at (reduceListed e) (ruleNumbers G) (all-at (λ e. all (reduceListed e) (ruleNumbers G)) (c .follows) (parts cellsTests ok .1 .1 .1 .0) m) (rule-number G i)) (eq-eqb (leftSide G r) (leftSide G r) refl) in
+        let k = implies (eqb (leftSide G r) (leftSide G r)) _ (all-at (reduceListed e) (ruleNumbers G) (all-at (λ e. all (reduceListed e) (ruleNumbers G)) (c .follows) (passed cellsTests ok 3) m) (rule-number G i)) (eq-eqb (leftSide G r) (leftSide G r) refl) in
         subst (λ o. reduceAt w r o ≡ true) (leads-to (automaton (c .tables)) (l .leads)) k
 
     pub holds-to : (s w : ℕ) (a : Action) → Holds G (automaton (c .tables)) s w a → hasAction (c .tables .actions) ((s, w), a) ≡ true
     unfolding cellsTests
-    holds-to s w a (may-shift {t = u} i g) = implies (isTerminal G w) _ (all-at shiftListed (c .tables .moves) (parts cellsTests ok .1 .0) (mem-lookup (c .tables .moves) s w u g)) (terminal-to G w i)
+    holds-to s w a (may-shift {t = u} i g) = implies (isTerminal G w) _ (all-at shiftListed (c .tables .moves) (passed cellsTests ok 1) (mem-lookup (c .tables .moves) s w u g)) (terminal-to G w i)
     holds-to s w a (may-accept h) = accepts s h
     holds-to s w a (may-reduce {r = r} i l) = reduces s w r i l

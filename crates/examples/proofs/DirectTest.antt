@@ -11,7 +11,7 @@ use Rattle.grammar.specs.Grammar.{Grammar, IsNonterminal}
 use Rattle.grammar.specs.Derivation.{isTerminal}
 use Rattle.grammar.specs.Lookahead.{Transition, Direct, next-word, next-end}
 use Rattle.examples.specs.Tables.{Tables, lookup, itemsOf, automaton}
-use Rattle.examples.proofs.Tests.{all, implies, all-at, mem-from, conj, parts}
+use Rattle.examples.proofs.Tests.{all, implies, all-at, mem-from, conj, passed}
 use Rattle.examples.proofs.Codes.{terminal-from, terminal-to, isNonterminal, nonterminal-from, nonterminal-to, found, found-from, found-to}
 use Rattle.examples.proofs.Lookup.{mem-lookup}
 use Rattle.examples.proofs.ItemsTest.{setOf}
@@ -70,12 +70,12 @@ module _ (G : Grammar) (t : Tables) where
     pub direct-from : (x : ℕ × ℕ) (w : ℕ) → has l (x, w) ≡ true → DirectBehind x w
     unfolding directTests
     direct-from x w h =
-        let p = and-parts (isNonterminal G (x .1)) (directBehind w (lookup (t .moves) (x .0) (x .1))) (all-at isDirect l (parts (directTests l) ok .0) (mem-from entries l (x, w) h)) in
+        let p = and-parts (isNonterminal G (x .1)) (directBehind w (lookup (t .moves) (x .0) (x .1))) (all-at isDirect l (passed (directTests l) ok 0) (mem-from entries l (x, w) h)) in
         direct-behind x w (nonterminal-from G (x .1) (p .0)) (lookup (t .moves) (x .0) (x .1)) refl (p .1)
 
     listed-behind : (x : ℕ × ℕ) (u : ℕ) → IsNonterminal G (x .1) → lookup (t .moves) (x .0) (x .1) ≡ some u → (all (wordListed l (x, u)) (t .moves) && (not (setOf (itemsOf t u) 0 1) || has l (x, 0))) ≡ true
     unfolding directTests
-    listed-behind x u i g = implies (isNonterminal G (x .1)) _ (all-at (allDirect l) (t .moves) (parts (directTests l) ok .1 .0) (mem-lookup (t .moves) (x .0) (x .1) u g)) (nonterminal-to G (x .1) i)
+    listed-behind x u i g = implies (isNonterminal G (x .1)) _ (all-at (allDirect l) (t .moves) (passed (directTests l) ok 1) (mem-lookup (t .moves) (x .0) (x .1) u g)) (nonterminal-to G (x .1) i)
 
     direct-case : (x : ℕ × ℕ) (u w : ℕ) → IsNonterminal G (x .1) → lookup (t .moves) (x .0) (x .1) ≡ some u → Direct G (automaton t) u w → has l (x, w) ≡ true
     direct-case x u w i g (next-word {t = v} j h) =

@@ -9,7 +9,7 @@ use Rattle.grammar.specs.Grammar.{Grammar, leftSide, rightSide}
 use Rattle.grammar.specs.Items.{codeIs}
 use Rattle.grammar.specs.Lookahead.{Transition, Reads, Includes, Read, Follow}
 use Rattle.examples.specs.Tables.{Tables, any, lookup, automaton}
-use Rattle.examples.proofs.Tests.{all, any-at, any-from, member, conj, parts, from-parts}
+use Rattle.examples.proofs.Tests.{all, any-at, any-from, member, conj, passed, from-parts}
 use Rattle.examples.proofs.Codes.{ruleNumbers, is-rule, rule-number, code-from, code-to}
 use Rattle.examples.proofs.Lookup.{mem-lookup}
 use Rattle.examples.proofs.NullableTest.{nullableTests, nullable-from, nullable-to, all-nullable-from, all-nullable-to}
@@ -46,30 +46,30 @@ module _ (G : Grammar) (t : Tables) (nullable : List ℕ) where
   module _ (exact : conj (nullableTests G nullable) ≡ true) where
     reads-from : (x y : ℕ × ℕ) → readsTo x y ≡ true → Reads G (automaton t) x y
     reads-from x y h =
-        let p = parts (readsTests x y) h in
-        record { from = transition-from G t x (p .0); to = transition-from G t y (p .1 .0); move = code-from _ (y .0) (p .1 .1 .0); nullable = nullable-from G nullable exact (y .1) (p .1 .1 .1 .0) }
+        let p = passed (readsTests x y) h in
+        record { from = transition-from G t x (p 0); to = transition-from G t y (p 1); move = code-from _ (y .0) (p 2); nullable = nullable-from G nullable exact (y .1) (p 3) }
 
     reads-to : (x y : ℕ × ℕ) → Reads G (automaton t) x y → readsTo x y ≡ true
     reads-to x y r = from-parts (readsTests x y) (transition-to G t x (r .from), (transition-to G t y (r .to), (code-to _ (y .0) (r .move), (nullable-to G nullable exact (y .1) (r .nullable), tt))))
 
     includes-from : (x y : ℕ × ℕ) → includesTo x y ≡ true → Includes G (automaton t) x y
     includes-from x y h =
-        let p = parts (includesTests x y) h in
-        let z = any-at (ruleIncludes x y) (ruleNumbers G) (p .1 .1 .0) in
+        let p = passed (includesTests x y) h in
+        let z = any-at (ruleIncludes x y) (ruleNumbers G) (p 2) in
         let q = and-parts (eqb (leftSide G (z .0)) (y .1)) _ (z .2) in
         let c = cut-at (rightSide G (z .0)) (λ β X γ. conj (cutTests x y β X γ)) (q .1) in
-        let k = parts (cutTests x y (c .before) (c .code) (c .after)) (c .passes) in
+        let k = passed (cutTests x y (c .before) (c .code) (c .after)) (c .passes) in
         record {
-          from = transition-from G t x (p .0);
-          to = transition-from G t y (p .1 .0);
+          from = transition-from G t x (p 0);
+          to = transition-from G t y (p 1);
           rule = z .0;
           before = c .before;
           after = c .after;
           is-rule = is-rule G (z .1);
           is-left = eqb-true (leftSide G (z .0)) (y .1) (q .0);
-          is-right = subst (λ X. rightSide G (z .0) ≡ c .before ++ X ∷ c .after) (eqb-true (c .code) (x .1) (k .0)) (c .is);
-          nullables = all-nullable-from G nullable exact (c .after) (k .1 .0);
-          leads = leads-from (automaton t) (c .before) (y .0) (x .0) (code-from _ (x .0) (k .1 .1 .0));
+          is-right = subst (λ X. rightSide G (z .0) ≡ c .before ++ X ∷ c .after) (eqb-true (c .code) (x .1) (k 0)) (c .is);
+          nullables = all-nullable-from G nullable exact (c .after) (k 1);
+          leads = leads-from (automaton t) (c .before) (y .0) (x .0) (code-from _ (x .0) (k 2));
         }
 
     includes-to : (x y : ℕ × ℕ) → Includes G (automaton t) x y → includesTo x y ≡ true
@@ -83,23 +83,23 @@ module _ (G : Grammar) (t : Tables) (nullable : List ℕ) where
       pub read-from : (x : ℕ × ℕ) (w : ℕ) → has reads (x, w) ≡ true → Read G (automaton t) x w
       unfolding followTests
       read-from x w h =
-          let g = gathered-from (Reads G (automaton t)) readsTo reads-from directs reads-to (t .moves) reads (λ x y r. starts x (r .from)) (parts (followTests directs reads follows) ok .0) x w h in
+          let g = gathered-from (Reads G (automaton t)) readsTo reads-from directs reads-to (t .moves) reads (λ x y r. starts x (r .from)) (passed (followTests directs reads follows) ok 0) x w h in
           let k = direct-from G t directs direct (g .last) w (g .seed) in
           record { last = g .last; steps = g .steps; is-transition = k .transition; direct = k .direct }
 
       pub read-to : (x : ℕ × ℕ) (w : ℕ) → Read G (automaton t) x w → has reads (x, w) ≡ true
       unfolding followTests
       read-to x w r =
-          gathered-to (Reads G (automaton t)) readsTo reads-from directs reads-to (t .moves) reads (λ x y r. starts x (r .from)) (parts (followTests directs reads follows) ok .0) w (r .steps)
+          gathered-to (Reads G (automaton t)) readsTo reads-from directs reads-to (t .moves) reads (λ x y r. starts x (r .from)) (passed (followTests directs reads follows) ok 0) w (r .steps)
           (direct-to G t directs direct (r .last) w (record { transition = r .is-transition; direct = r .direct }))
 
       pub follow-from : (x : ℕ × ℕ) (w : ℕ) → has follows (x, w) ≡ true → Follow G (automaton t) x w
       unfolding followTests
       follow-from x w h =
-          let g = gathered-from (Includes G (automaton t)) includesTo includes-from reads includes-to (t .moves) follows (λ x y i. starts x (i .from)) (parts (followTests directs reads follows) ok .1 .0) x w h in
+          let g = gathered-from (Includes G (automaton t)) includesTo includes-from reads includes-to (t .moves) follows (λ x y i. starts x (i .from)) (passed (followTests directs reads follows) ok 1) x w h in
           record { last = g .last; steps = g .steps; read = read-from (g .last) w (g .seed) }
 
       pub follow-to : (x : ℕ × ℕ) (w : ℕ) → Follow G (automaton t) x w → has follows (x, w) ≡ true
       unfolding followTests
       follow-to x w f =
-          gathered-to (Includes G (automaton t)) includesTo includes-from reads includes-to (t .moves) follows (λ x y i. starts x (i .from)) (parts (followTests directs reads follows) ok .1 .0) w (f .steps) (read-to (f .last) w (f .read))
+          gathered-to (Includes G (automaton t)) includesTo includes-from reads includes-to (t .moves) follows (λ x y i. starts x (i .from)) (passed (followTests directs reads follows) ok 1) w (f .steps) (read-to (f .last) w (f .read))

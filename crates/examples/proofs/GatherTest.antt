@@ -8,7 +8,7 @@ use lib.Dec.{eqb}
 use Rattle.std.proofs.shelf.Tests.{and-parts, or-cases, eqb-true}
 use Rattle.grammar.specs.Lookahead.{Star, stop, go}
 use Rattle.examples.specs.Tables.{any, samePair}
-use Rattle.examples.proofs.Tests.{all, implies, all-at, any-at, Equality, sameBoth, numbers, both, pairs, member, mem-from, conj, parts}
+use Rattle.examples.proofs.Tests.{all, implies, all-at, any-at, Equality, sameBoth, numbers, both, pairs, member, mem-from, conj, passed}
 use Rattle.examples.proofs.Ordered.{ordered, Each, in-order}
 
 -- A word at a place.
@@ -57,12 +57,12 @@ module _ (R : ℕ × ℕ → ℕ × ℕ → Type 0) (step : ℕ × ℕ → ℕ �
   module _ (to : (x y : ℕ × ℕ) → R x y → step x y ≡ true) (moves l : List Entry) (starts : (x y : ℕ × ℕ) → R x y → (u : ℕ) × List·Memᴰ (x, u) moves) (ok : conj (gatherTests step moves seeds l) ≡ true) where
     pub gathered-from : (x : ℕ × ℕ) (w : ℕ) → has l (x, w) ≡ true → Gathered (x, w)
     unfolding gatherTests
-    gathered-from x w h = in-order Gathered (arrives step seeds) reason l (parts (gatherTests step moves seeds l) ok .0) (x, w) (mem-from entries l (x, w) h)
+    gathered-from x w h = in-order Gathered (arrives step seeds) reason l (passed (gatherTests step moves seeds l) ok 0) (x, w) (mem-from entries l (x, w) h)
 
     pub gathered-to : {x y : ℕ × ℕ} (w : ℕ) → Star R x y → has seeds (y, w) ≡ true → has l (x, w) ≡ true
     unfolding gatherTests
-    gathered-to {x} w stop h = all-at (has l) seeds (parts (gatherTests step moves seeds l) ok .1 .0) (mem-from entries seeds (x, w) h)
+    gathered-to {x} w stop h = all-at (has l) seeds (passed (gatherTests step moves seeds l) ok 1) (mem-from entries seeds (x, w) h)
     gathered-to {x} w (go {b = z} r s) h =
         let m = starts x z r in
         implies (step x z) (has l (x, w))
-        (all-at (goesBack step l (z, w)) moves (all-at (λ f. all (goesBack step l f) moves) l (parts (gatherTests step moves seeds l) ok .1 .1 .0) (mem-from entries l (z, w) (gathered-to w s h))) (m .1)) (to x z r)
+        (all-at (goesBack step l (z, w)) moves (all-at (λ f. all (goesBack step l f) moves) l (passed (gatherTests step moves seeds l) ok 2) (mem-from entries l (z, w) (gathered-to w s h))) (m .1)) (to x z r)

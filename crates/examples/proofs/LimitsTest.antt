@@ -10,7 +10,7 @@ use Rattle.std.proofs.shelf.Tests.{and-parts, or-cases, leb-true}
 use Rattle.grammar.specs.Grammar.{Grammar, IsRule, AllCodes, leftSide, rightSide}
 use Rattle.grammar.specs.Derivation.{isTerminal}
 use Rattle.grammar.specs.Outcome.{Within, InRange}
-use Rattle.examples.proofs.Tests.{all, all-at, conj, parts}
+use Rattle.examples.proofs.Tests.{all, all-at, conj, passed}
 use Rattle.examples.proofs.Codes.{terminal-from, isNonterminal, nonterminal-from, ruleNumbers, rule-number}
 
 unfoldable pub limitsTests : Grammar → List Bool
@@ -37,15 +37,15 @@ module _ (G : Grammar) where
   pub within : conj (limitsTests G) ≡ true → Within G
   unfolding limitsTests
   within ok =
-      let p = parts (limitsTests G) ok in
+      let p = passed (limitsTests G) ok in
       record {
-        some-terminal = leb-true 1 (G .terminals) (p .0);
-        terminals = leb-true (G .terminals) 63 (p .1 .0);
-        some-nonterminal = leb-true 1 (G .nonterminals) (p .1 .1 .0);
-        nonterminals = leb-true (G .nonterminals) 24 (p .1 .1 .1 .0);
-        some-rule = leb-true 1 (length (G .rules)) (p .1 .1 .1 .1 .0);
-        rules = leb-true (length (G .rules)) 96 (p .1 .1 .1 .1 .1 .0);
-        right-sides = λ r i. leb-true (length (rightSide G r)) 8 (all-at (λ r. leb (length (rightSide G r)) 8) (ruleNumbers G) (p .1 .1 .1 .1 .1 .1 .0) (rule-number G i));
+        some-terminal = leb-true 1 (G .terminals) (p 0);
+        terminals = leb-true (G .terminals) 63 (p 1);
+        some-nonterminal = leb-true 1 (G .nonterminals) (p 2);
+        nonterminals = leb-true (G .nonterminals) 24 (p 3);
+        some-rule = leb-true 1 (length (G .rules)) (p 4);
+        rules = leb-true (length (G .rules)) 96 (p 5);
+        right-sides = λ r i. leb-true (length (rightSide G r)) 8 (all-at (λ r. leb (length (rightSide G r)) 8) (ruleNumbers G) (p 6) (rule-number G i));
       }
 
   all-codes : (Xs : List ℕ) → all (isCode G) Xs ≡ true → AllCodes G Xs

@@ -9,7 +9,7 @@ use Rattle.grammar.specs.Grammar.{Grammar, leftSide, rightSide}
 use Rattle.grammar.specs.Items.{codeIs}
 use Rattle.grammar.specs.Lookahead.{Follow, Lookahead}
 use Rattle.examples.specs.Tables.{any, automaton}
-use Rattle.examples.proofs.Tests.{any-at, any-from, mem-from, mem-to, conj, parts, from-parts}
+use Rattle.examples.proofs.Tests.{any-at, any-from, mem-from, mem-to, conj, passed, from-parts}
 use Rattle.examples.proofs.Codes.{code-from, code-to}
 use Rattle.examples.proofs.NullableTest.{nullableTests}
 use Rattle.examples.proofs.Walk.{walk, leads-to, leads-from}
@@ -32,21 +32,21 @@ module _ (G : Grammar) (c : Certificate) where
   module _ (ok : conj lookaheadTests ≡ true) where
     follows-from : (x : ℕ × ℕ) (w : ℕ) → has (c .follows) (x, w) ≡ true → Follow G (automaton (c .tables)) x w
     unfolding lookaheadTests
-    follows-from = let p = parts lookaheadTests ok in follow-from G (c .tables) (c .nullable) (p .0) (c .directs) (c .reads) (c .follows) (p .1 .0) (p .1 .1 .0)
+    follows-from = let p = passed lookaheadTests ok in follow-from G (c .tables) (c .nullable) (p 0) (c .directs) (c .reads) (c .follows) (p 1) (p 2)
 
     pub follows-to : (x : ℕ × ℕ) (w : ℕ) → Follow G (automaton (c .tables)) x w → has (c .follows) (x, w) ≡ true
     unfolding lookaheadTests
-    follows-to = let p = parts lookaheadTests ok in follow-to G (c .tables) (c .nullable) (p .0) (c .directs) (c .reads) (c .follows) (p .1 .0) (p .1 .1 .0)
+    follows-to = let p = passed lookaheadTests ok in follow-to G (c .tables) (c .nullable) (p 0) (c .directs) (c .reads) (c .follows) (p 1) (p 2)
 
     pub lookahead-from : (s r w : ℕ) → inLookahead s r w ≡ true → Lookahead G (automaton (c .tables)) s r w
     lookahead-from s r w h =
         let z = any-at (λ e. conj (entryTests s r w e)) (c .follows) h in
-        let p = parts (entryTests s r w (z .0)) (z .2) in
+        let p = passed (entryTests s r w (z .0)) (z .2) in
         let f = follows-from (z .0 .0) (z .0 .1) (mem-to entries (c .follows) (z .1)) in
         record {
           back = z .0 .0 .0;
-          leads = leads-from (automaton (c .tables)) (rightSide G r) (z .0 .0 .0) s (code-from _ s (p .1 .0));
-          follow = subst (λ X. Follow G (automaton (c .tables)) (z .0 .0 .0, X) w) (eqb-true (z .0 .0 .1) (leftSide G r) (p .0)) (subst (Follow G (automaton (c .tables)) (z .0 .0)) (eqb-true (z .0 .1) w (p .1 .1 .0)) f);
+          leads = leads-from (automaton (c .tables)) (rightSide G r) (z .0 .0 .0) s (code-from _ s (p 1));
+          follow = subst (λ X. Follow G (automaton (c .tables)) (z .0 .0 .0, X) w) (eqb-true (z .0 .0 .1) (leftSide G r) (p 0)) (subst (Follow G (automaton (c .tables)) (z .0 .0)) (eqb-true (z .0 .1) w (p 2)) f);
         }
 
     pub lookahead-to : (s r w : ℕ) → Lookahead G (automaton (c .tables)) s r w → inLookahead s r w ≡ true

@@ -9,7 +9,7 @@ use lib.ListN.{length, length-append}
 use Rattle.std.proofs.shelf.Tests.{and-parts, and-from}
 use Rattle.grammar.specs.Grammar.{Grammar, IsRule, leftSide, rightSide}
 use Rattle.grammar.specs.Trees.{Forest, empty, leaf, node, Tree, Nullable, AllNullable}
-use Rattle.examples.proofs.Tests.{all, implies, all-at, member, numbers, mem-from, conj, parts}
+use Rattle.examples.proofs.Tests.{all, implies, all-at, member, numbers, mem-from, conj, passed}
 use Rattle.examples.proofs.Ordered.{ordered}
 use Rattle.examples.proofs.Codes.{ruleNumbers, rule-number}
 use Rattle.examples.proofs.Derived.{derivable, all-derived, tree}
@@ -33,12 +33,12 @@ module _ (G : Grammar) (l : List ℕ) (ok : conj (nullableTests G l) ≡ true) w
   pub nullable-from : (X : ℕ) → member eqb l X ≡ true → Nullable G X
   unfolding nullableTests
   nullable-from X h =
-      let t = all-derived G no-word l (parts (nullableTests G l) ok .0) X (mem-from numbers l X h) in
+      let t = all-derived G no-word l (passed (nullableTests G l) ok 0) X (mem-from numbers l X h) in
       (t .rules ++ t .rule ∷ [], subst (λ ws. Tree G X ws (t .rules ++ t .rule ∷ [])) (no-words (t .words) (t .free-words)) (tree G no-word t))
 
   closed : (r : ℕ) → IsRule G r → all (member eqb l) (rightSide G r) ≡ true → member eqb l (leftSide G r) ≡ true
   unfolding nullableTests
-  closed r i h = implies (all (member eqb l) (rightSide G r)) (member eqb l (leftSide G r)) (all-at (closedUnder G l) (ruleNumbers G) (parts (nullableTests G l) ok .1 .0) (rule-number G i)) h
+  closed r i h = implies (all (member eqb l) (rightSide G r)) (member eqb l (leftSide G r)) (all-at (closedUnder G l) (ruleNumbers G) (passed (nullableTests G l) ok 1) (rule-number G i)) h
 
   listed : {Xs ws ps : List ℕ} → Forest G Xs ws ps → length ws ≡ 0 → all (member eqb l) Xs ≡ true
   listed empty e = refl

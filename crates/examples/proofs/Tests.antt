@@ -7,6 +7,7 @@ use mathlib.Core.Option.{some}
 use Prim.Native.Nat.{ℕ, zero, suc, _+_, _≤_, _<_}
 use native.Mathlib.Omega.{arith}
 use lib.Dec.{eqb}
+use lib.ListN.{getD}
 use Rattle.std.proofs.shelf.Tests.{and-parts, and-from, or-cases, or-left, or-right, eqb-true, eq-eqb, cases-eq}
 use Rattle.examples.specs.Tables.{any, samePair}
 
@@ -109,9 +110,11 @@ abbrev pub Conj : List Bool → Type 0
 Conj [] = Unit {0}
 Conj (b ∷ l) = (b ≡ true) × Conj l
 
-pub parts : (l : List Bool) → conj l ≡ true → Conj l
-parts [] h = tt
-parts (b ∷ l) h = let p = and-parts b (conj l) h in (p .0, parts l (p .1))
+-- The test at a place has passed.
+pub passed : (l : List Bool) → conj l ≡ true → (i : ℕ) → getD l i true ≡ true
+passed [] h i = refl
+passed (b ∷ l) h zero = and-parts b (conj l) h .0
+passed (b ∷ l) h (suc i) = passed l (and-parts b (conj l) h .1) i
 
 pub from-parts : (l : List Bool) → Conj l → conj l ≡ true
 from-parts [] p = refl

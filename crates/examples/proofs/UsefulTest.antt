@@ -13,7 +13,7 @@ use Rattle.grammar.specs.Grammar.{Grammar, IsNonterminal, leftSide, rightSide, 
 use Rattle.grammar.specs.Trees.{Productive}
 use Rattle.grammar.specs.Useful.{Used, at-start, in-rule, Useless}
 use Rattle.examples.specs.Tables.{any}
-use Rattle.examples.proofs.Tests.{all, range, all-at, any-at, mem-range, member, numbers, mem-from, conj, parts}
+use Rattle.examples.proofs.Tests.{all, range, all-at, any-at, mem-range, member, numbers, mem-from, conj, passed}
 use Rattle.examples.proofs.Ordered.{ordered, Each, in-order}
 use Rattle.examples.proofs.Codes.{ruleNumbers, is-rule}
 use Rattle.examples.proofs.Derived.{derivable, all-derived, tree}
@@ -58,17 +58,17 @@ module _ (G : Grammar) where
     unfolding usefulTests
     in-both X i =
         and-parts (member eqb productive X) (member eqb used X)
-        (all-at (λ X. member eqb productive X && member eqb used X) (range (suc (G .terminals)) (G .nonterminals)) (parts (usefulTests G productive used) ok .1 .1 .0) (mem-range (suc (G .terminals)) (G .nonterminals) X (i .low) (omega (arith, i .high))))
+        (all-at (λ X. member eqb productive X && member eqb used X) (range (suc (G .terminals)) (G .nonterminals)) (passed (usefulTests G productive used) ok 2) (mem-range (suc (G .terminals)) (G .nonterminals) X (i .low) (omega (arith, i .high))))
 
     pub is-productive : (X : ℕ) → IsNonterminal G X → Productive G X
     unfolding usefulTests
     is-productive X i =
-        let t = all-derived G any-word productive (parts (usefulTests G productive used) ok .0) X (mem-from numbers productive X (in-both X i .0)) in
+        let t = all-derived G any-word productive (passed (usefulTests G productive used) ok 0) X (mem-from numbers productive X (in-both X i .0)) in
         (t .words, t .rules ++ t .rule ∷ [], tree G any-word t)
 
     pub is-used : (X : ℕ) → IsNonterminal G X → Used G X
     unfolding usefulTests
-    is-used X i = in-order (Used G) (reachable G) reason used (parts (usefulTests G productive used) ok .1 .0) X (mem-from numbers used X (in-both X i .1))
+    is-used X i = in-order (Used G) (reachable G) reason used (passed (usefulTests G productive used) ok 1) X (mem-from numbers used X (in-both X i .1))
 
     pub none-useless : (X : ℕ) → Useless G X → ⊥
     none-useless X u = pick (u .fault)

@@ -1,3 +1,4 @@
-pub mod Sheets
 pub mod Tables
+pub mod Sheets
+pub mod Turns
 pub mod Worked

@@ -5,6 +5,7 @@ use Rattle.grammar.specs.Grammar.{Grammar, Rule}
 use Rattle.grammar.specs.declared.action.Action.the-variants.{Shift, Accept, Reduce}
 use Rattle.examples.specs.Tables.{Tables}
 
+-- A left side and a right side.
 abbrev pub rule : ℕ → List ℕ → Rule
 rule X Xs = record { left = X; right = Xs }
 
@@ -17,7 +18,7 @@ sheetA =
       rules = rule 4 (5 ∷ 6 ∷ []) ∷ rule 5 (1 ∷ 2 ∷ []) ∷ rule 6 (3 ∷ 6 ∷ []) ∷ rule 6 [] ∷ [];
     }
 
--- A sheet where the lookahead depends on the state, and not on the nonterminal alone.
+-- Terminals 1 to 4, nonterminals 5 and 6. What may come behind 6 depends on the state: word 1 at first, and word 3 behind word 2.
 unfoldable pub sheetB : Grammar
 sheetB =
     record {
@@ -26,7 +27,7 @@ sheetB =
       rules = rule 5 (6 ∷ 1 ∷ []) ∷ rule 5 (2 ∷ 6 ∷ 3 ∷ []) ∷ rule 5 (2 ∷ 4 ∷ 1 ∷ []) ∷ rule 6 (4 ∷ []) ∷ [];
     }
 
--- A sheet in which one state is met behind different words, so that two rules meet in a cell.
+-- Terminals 1 to 4, nonterminals 5, 6 and 7. Word 4 leads to one state from two others, and there rules 5 and 6 end with the same words ahead.
 unfoldable pub sheetC : Grammar
 sheetC =
     record {
@@ -42,6 +43,7 @@ sheetC =
           ∷ [];
     }
 
+-- The tables of sheet A: states in the order of their numbers from 0, moves and actions by state.
 unfoldable pub tablesA : Tables
 tablesA =
     record {
@@ -66,6 +68,7 @@ tablesA =
           ∷ [];
     }
 
+-- The tables of sheet B.
 unfoldable pub tablesB : Tables
 tablesB =
     record {

@@ -19,6 +19,7 @@ abbrev pub any : {B : Type 0} → (B → Bool) → List B → Bool
 any f [] = false
 any f (x ∷ l) = f x || any f l
 
+-- Two pairs of numbers are equal.
 abbrev pub samePair : ℕ × ℕ → ℕ × ℕ → Bool
 samePair x y = eqb (x .0) (y .0) && eqb (x .1) (y .1)
 
@@ -27,11 +28,14 @@ abbrev pub lookup : {B : Type 0} → List ((ℕ × ℕ) × B) → ℕ → ℕ �
 lookup [] a b = none
 lookup (x ∷ l) a b = cond (samePair (a, b) (x .0)) (some (x .1)) (lookup l a b)
 
+-- The items of a state; none behind the last.
 abbrev pub itemsOf : Tables → ℕ → List (ℕ × ℕ)
 itemsOf t s = getD (t .states) s []
 
+-- The states and their moves.
 abbrev pub automaton : Tables → Automaton
 automaton t = record { has = λ s r d. any (samePair (r, d)) (itemsOf t s); goto = lookup (t .moves) }
 
+-- The cells: an empty cell is none.
 abbrev pub cells : Tables → ℕ → ℕ → Option Action
 cells t = lookup (t .actions)
