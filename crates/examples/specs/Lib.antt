@@ -1,0 +1,4 @@
+pub mod Tables
+pub mod Sheets
+pub mod Turns
+pub mod Worked
