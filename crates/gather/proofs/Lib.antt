@@ -1,5 +1,5 @@
 pub mod Bitwise
-pub mod SetMembers
+pub mod Sets
 pub mod Parts
 pub mod Paths
 pub mod Tracing

@@ -14,7 +14,7 @@ use Rattle.gather.specs.Members.{has, MembersReached}
 use Rattle.gather.specs.Reach.{Step, Reaches, here, step, ReachesSome}
 use Rattle.gather.proofs.Parts.{Lattice}
 use Rattle.gather.proofs.Paths.{joined-part}
-use Rattle.gather.proofs.SetMembers.{has-unite}
+use Rattle.gather.proofs.Sets.{has-unite}
 
 pub once : {M : Type 0} (none : M) (op : M → M → M) → Lattice op → Once none op
 once none op laws targets seeds a b p q =
