@@ -1,7 +1,7 @@
 -- Where the walks begin and end.
-use mathlib.Core.Bool.{Bool, cond}
+use mathlib.Core.Bool.{Bool}
 use mathlib.Core.List.{List}
-use mathlib.Core.Logic.{_⊎_, inl, inr, ⊎-elim}
+use mathlib.Core.Logic.{inl, ⊎-elim}
 use mathlib.Core.Path.{_≡_, refl, sym, ap, subst, _∙_}
 use Prim.Native.Nat.{ℕ, zero, suc, _+_, _<_, _≤_}
 use native.Mathlib.Omega.{arith}
@@ -9,8 +9,8 @@ use lib.Dec.{eqb}
 use lib.ListN.{length, getD}
 use Rattle.std.proofs.shelf.Tests.{cases-bool, cases-order}
 use Rattle.gather.specs.Gathered.{PartOf, seed, Gathered}
-use Rattle.gather.specs.Reach.{Step, Reaches, here, step}
-use Rattle.gather.specs.Stack.{count, Snapshot, snap, mark, Sound, Walked, Kept, Stays}
+use Rattle.gather.specs.Reach.{Reaches, here, step}
+use Rattle.gather.specs.Stack.{count, Snapshot, snap, mark, Sound, Walked}
 use Rattle.gather.proofs.Parts.{Lattice, part-trans}
 
 count-le : (f : ℕ → Bool) (n : ℕ) → count f n ≤ n
@@ -68,12 +68,11 @@ module _ {M : Type 0} {none : M} {op : M → M → M} {targets : ℕ → List �
   pub between-as : {values values′ : List M} {marks marks′ stack stack′ : List ℕ} {i : ℕ} → values′ ≡ values → marks′ ≡ marks → stack′ ≡ stack → Between none op targets seeds (snap values marks stack 0) i → Between none op targets seeds (snap values′ marks′ stack′ 0) i
   between-as {i = i} v m s = subst (λ z. Between none op targets seeds z i) (λ j. snap (sym v j) (sym m j) (sym s j) 0)
 
-module _ {M : Type 0} {none : M} {op : M → M → M} (laws : Lattice op) {targets : ℕ → List ℕ} {seeds : List M} where
-  -- Every place is done.
-  module _ {values : List M} {marks stack : List ℕ} (w : Sound none op targets seeds (snap values marks stack 0)) (done : (p : ℕ) → p < length seeds → getD marks p 0 ≡ 2305) where
-    all-reached : (i j : ℕ) → i < length seeds → Reaches (length seeds) targets i j → PartOf op (getD seeds j none) (getD values i none)
-    all-reached i j l here = w .own i l
-    all-reached i j l (step hop r) = part-trans laws _ _ _ (all-reached _ j (hop .inside) r) (w .done i _ l (done i l) hop .1)
+-- Every place is done.
+module _ {M : Type 0} {none : M} {op : M → M → M} (laws : Lattice op) {targets : ℕ → List ℕ} {seeds : List M} {values : List M} {marks stack : List ℕ} (w : Sound none op targets seeds (snap values marks stack 0)) (done : (p : ℕ) → p < length seeds → getD marks p 0 ≡ 2305) where
+  all-reached : (i j : ℕ) → i < length seeds → Reaches (length seeds) targets i j → PartOf op (getD seeds j none) (getD values i none)
+  all-reached i j l here = w .own i l
+  all-reached i j l (step hop r) = part-trans laws _ _ _ (all-reached _ j (hop .inside) r) (w .done i _ l (done i l) hop .1)
 
-    pub finish : Gathered none op targets seeds values
-    finish = record { size = w .size; only = w .only; all = all-reached }
+  pub finish : Gathered none op targets seeds values
+  finish = record { size = w .size; only = w .only; all = all-reached }

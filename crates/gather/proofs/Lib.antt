@@ -7,6 +7,7 @@ mod Listed
 mod Counts
 mod Closing
 mod Turns
+mod Pushes
 mod Calls
 mod Folds
 mod Pops

@@ -1,5 +1,5 @@
 -- Word sets as values: which numbers are members, and that sets with the same members are equal.
-use mathlib.Core.Bool.{Bool, true, _||_, or-self, or-comm, or-assoc}
+use mathlib.Core.Bool.{_||_, or-self, or-comm, or-assoc}
 use mathlib.Core.Path.{_≡_, sym, ap, _∙_}
 use Prim.Native.Nat.{ℕ}
 use Rattle.gather.specs.Members.{has, unite, ByMembers}

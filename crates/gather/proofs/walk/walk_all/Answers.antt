@@ -1,9 +1,6 @@
-use mathlib.Core.Logic.{⊎-elim}
-use mathlib.Core.Path.{_≡_, sym, ap, subst, _∙_}
-use Prim.Native.Nat.{ℕ, _+_, _<_}
+use Prim.Native.Nat.{_<_}
 use native.Mathlib.Omega.{arith}
-use lib.ListN.{length, getD}
-use Rattle.gather.specs.Stack.{snap}
+use lib.ListN.{length}
 use Rattle.gather.proofs.Ends.{pass-seen, pass-walked, between-as}
 use Rattle.gather.proofs.walk.walk_all.Needs as need
 use Rattle.gather.proofs.walk.walk_all.Needs.{then-marks-x-eq0, else-marks-x-eq0}
