@@ -15,7 +15,7 @@ has s k = isBit (s .0) k
 abbrev pub noMembers : WordSet
 noMembers = record { 0 = 0 }
 
--- The members of both.
+-- What is a member of either.
 abbrev pub unite : WordSet → WordSet → WordSet
 unite a b = record { 0 = bitOr (a .0) (b .0) }
 

@@ -25,7 +25,7 @@ pub(super) fn only(place: usize) -> u64
     1 << place
 }
 
-// The bits of both.
+// What is a bit of either.
 pub(super) fn either(a: u64, b: u64) -> u64
     ensures is { λ r. ⌜ r ≡ bitOr a b ⌝ }
     ensures bits { λ r. ⌜ ((k : ℕ) → isBit r k ≡ (isBit a k || isBit b k)) ⌝ }

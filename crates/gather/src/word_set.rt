@@ -34,7 +34,7 @@ impl WordSet {
         bit(self.0, number)
     }
 
-    // The members of both.
+    // What is a member of either.
     pub fn union(self, other: WordSet) -> WordSet
         ensures is { λ r. ⌜ r ≡ unite self other ⌝ }
         ensures members { λ r. ⌜ ((k : ℕ) → has r k ≡ (has self k || has other k)) ⌝ }
