@@ -1,21 +1,21 @@
--- A turn at a target, up to where the target is seen.
-use mathlib.Core.Path.{_≡_, refl, sym, ap, subst, _∙_}
-use mathlib.Core.Logic.{_⊎_, inl, inr, ⊎-elim}
+-- A turn of the loop over the next places of x, up to where the next place t is seen.
 use mathlib.Core.List.{List}
-use Prim.Native.Nat.{ℕ, zero, suc, _+_, _-_, _<_, _≤_, min}
+use mathlib.Core.Logic.{inl, inr, ⊎-elim}
+use mathlib.Core.Path.{_≡_, sym, ap, subst, _∙_}
+use Prim.Native.Nat.{ℕ, _+_, _<_, _≤_}
 use native.Mathlib.Omega.{arith}
-use lib.ListN.{length, getD, set}
-use Rattle.std.proofs.shelf.Tests.{cases-eq, cases-order, cases-lt}
+use lib.ListN.{length, getD}
+use Rattle.std.proofs.shelf.Tests.{cases-order}
 use Rattle.gather.specs.Gathered.{PartOf}
-use Rattle.gather.specs.Reach.{Step, Reaches, here, step}
-use Rattle.gather.specs.Stack.{Snapshot, snap, value, mark, at, unseen, Sound, TakenIn, Settled, Kept, Stays, Walked}
+use Rattle.gather.specs.Reach.{Step}
+use Rattle.gather.specs.Stack.{Snapshot, value, mark, at, TakenIn, Settled, Kept, Walked}
 use Rattle.gather.proofs.Parts.{Lattice, part-as}
 use Rattle.gather.proofs.Turns.{Turn, Joint}
 
-module _ {M : Type 0} {none : M} {op : M → M → M} (laws : Lattice op) {targets : ℕ → List ℕ} {seeds : List M} where
-  -- a target that is no place of the list
-  pub passed : {s₀ s : Snapshot M} {x h k : ℕ} → Turn none op targets seeds s₀ s x h k → length seeds ≤ getD (targets x) k 0 → Turn none op targets seeds s₀ s x h (k + 1)
-  passed {s₀} {s} {x} {h} {k} u out = record {
+module _ {M : Type 0} {none : M} {op : M → M → M} {targets : ℕ → List ℕ} {seeds : List M} where
+  -- The next place is no place of the list.
+  pub outside : {s₀ s : Snapshot M} {x h k : ℕ} → Turn none op targets seeds s₀ s x h k → length seeds ≤ getD (targets x) k 0 → Turn none op targets seeds s₀ s x h (k + 1)
+  outside {s₀} {s} {x} {h} {k} u out = record {
     sound = u .sound;
     fresh = u .fresh;
     in-x = u .in-x;
@@ -30,9 +30,9 @@ module _ {M : Type 0} {none : M} {op : M → M → M} (laws : Lattice op) {targe
     kept = u .kept;
   }
 
-  -- a target that was seen before
-  pub joint-none : {s₀ s : Snapshot M} {x h k : ℕ} (t : ℕ) → Turn none op targets seeds s₀ s x h k → Step (length seeds) targets x t → (mark s t ≡ 0 → ⊥) → Joint none op targets seeds s₀ s x h k (s .top) t
-  joint-none {s₀} {s} {x} {h} {k} t u hop nz = record {
+  -- The next place was seen before.
+  pub seen-before : {s₀ s : Snapshot M} {x h k : ℕ} (t : ℕ) → Turn none op targets seeds s₀ s x h k → Step (length seeds) targets x t → (mark s t ≡ 0 → ⊥) → Joint none op targets seeds s₀ s x h k (s .top) t
+  seen-before {s₀} {s} {x} {h} {k} t u hop nz = record {
     sound = u .sound;
     fresh = u .fresh;
     in-x = u .in-x;
@@ -46,8 +46,9 @@ module _ {M : Type 0} {none : M} {op : M → M → M} (laws : Lattice op) {targe
     seen = ⊎-elim (λ z. absurd (nz z)) (λ r. r) (u .sound .sorts t (hop .inside));
   }
 
-  link-kept : {s s′ : Snapshot M} → Kept none op targets seeds s s′ (s .top) → s .top ≤ s′ .top → (w t : ℕ) → w < length seeds → t < length seeds → (mark s w ≡ 0 → ⊥) → TakenIn none op targets seeds s w t → TakenIn none op targets seeds s′ w t
-  link-kept {s = s} {s′ = s′} κ grows w t in-w in-t nz link =
+  -- What was taken in stays so over a walk.
+  taken-kept : {s s′ : Snapshot M} → Kept none op targets seeds s s′ (s .top) → s .top ≤ s′ .top → (w t : ℕ) → w < length seeds → t < length seeds → (mark s w ≡ 0 → ⊥) → TakenIn none op targets seeds s w t → TakenIn none op targets seeds s′ w t
+  taken-kept {s = s} {s′ = s′} κ grows w t in-w in-t nz taken =
       let mw = κ .marked w in-w nz in
       let vw = κ .valued w in-w nz in
       ⊎-elim
@@ -55,10 +56,10 @@ module _ {M : Type 0} {none : M} {op : M → M → M} (laws : Lattice op) {targe
       let nz′ : mark s t ≡ 0 → ⊥ = λ e. omega (arith, done .0) in
       inl (κ .marked t in-t nz′ ∙ done .0, part-as op (value none s t) (value none s′ t) (value none s w) (value none s′ w) (κ .valued t in-t nz′) vw (done .1)))
       (λ on. inr (on .0, omega (arith, on .1), κ .stacked (on .0) (on .1) ∙ on .2, omega (arith, on .3, mw)))
-      link
+      taken
 
-  -- after the walk from a target that was not seen
-  module _ {s₀ s s′ : Snapshot M} {x h k : ℕ} (t : ℕ) (u : Turn none op targets seeds s₀ s x h k) (hop : Step (length seeds) targets x t) (new : mark s t ≡ 0) (r : Walked none op targets seeds s s′ t) where
+  -- The next place was not seen yet, and was walked from.
+  module _ (laws : Lattice op) {s₀ s s′ : Snapshot M} {x h k : ℕ} (t : ℕ) (u : Turn none op targets seeds s₀ s x h k) (hop : Step (length seeds) targets x t) (new : mark s t ≡ 0) (r : Walked none op targets seeds s s′ t) where
     grows : s .top ≤ s′ .top
     grows = ⊎-elim (λ e. omega (arith, e .0)) (λ y. omega (arith, y .there)) (r .ends)
 
@@ -68,8 +69,8 @@ module _ {M : Type 0} {none : M} {op : M → M → M} (laws : Lattice op) {targe
     x-seen : mark s x ≡ 0 → ⊥
     x-seen e = on-stack h (u .there) (ap (mark s) (u .is) ∙ e)
 
-    fine-kept : (a : ℕ) → h < a → a < s .top → Settled none op targets seeds s′ x a
-    fine-kept a g l =
+    settled-kept : (a : ℕ) → h < a → a < s .top → Settled none op targets seeds s′ x a
+    settled-kept a g l =
         let f = u .settled a g l in
         let κ = r .kept in
         let same : at s′ a ≡ at s a = κ .stacked a l in
@@ -84,12 +85,12 @@ module _ {M : Type 0} {none : M} {op : M → M → M} (laws : Lattice op) {targe
           under = part-as op (value none s (at s a)) (value none s′ (at s′ a)) (value none s x) (value none s′ x) va vx (f .under);
           taken = λ t′ hop′.
               let hop″ : Step (length seeds) targets (at s a) t′ = subst (λ p. Step (length seeds) targets p t′) same hop′ in
-              let link = link-kept {s = s} {s′ = s′} κ grows (at s a) t′ in-a (hop′ .inside) (on-stack a l) (f .taken t′ hop″) in
-              subst (λ p. TakenIn none op targets seeds s′ p t′) (sym same) link;
+              let in-it = taken-kept {s = s} {s′ = s′} κ grows (at s a) t′ in-a (hop′ .inside) (on-stack a l) (f .taken t′ hop″) in
+              subst (λ p. TakenIn none op targets seeds s′ p t′) (sym same) in-it;
         }
 
-    fine-new : (a : ℕ) → s .top ≤ a → a < s′ .top → Settled none op targets seeds s′ t a
-    fine-new a g l =
+    settled-new : (a : ℕ) → s .top ≤ a → a < s′ .top → Settled none op targets seeds s′ t a
+    settled-new a g l =
         ⊎-elim
         (λ e. absurd (omega (arith, e .0)))
         (λ y.
@@ -100,15 +101,15 @@ module _ {M : Type 0} {none : M} {op : M → M → M} (laws : Lattice op) {targe
         record {
           lower = omega (arith, ma, y .low);
           above = omega (arith, ma);
-          under = subst (λ p. op (value none s′ p) (value none s′ t) ≡ value none s′ t) (sym is) (laws .idem (value none s′ t));
+          under = subst (λ p. PartOf op (value none s′ p) (value none s′ t)) (sym is) (laws .idem (value none s′ t));
           taken = λ t′ hop′. subst (λ p. TakenIn none op targets seeds s′ p t′) (sym is) (y .taken t′ (subst (λ p. Step (length seeds) targets p t′) is hop′));
         })
         (⊎-elim (λ lt. absurd (omega arith)) (λ gt. y .settled a gt l))
         (cases-order a (s .top)))
         (r .ends)
 
-    pub joint-call : Joint none op targets seeds s₀ s′ x h k (s .top) t
-    joint-call =
+    pub walked-from : Joint none op targets seeds s₀ s′ x h k (s .top) t
+    walked-from =
         let κ = r .kept in
         let up = grows in
         record {
@@ -118,9 +119,9 @@ module _ {M : Type 0} {none : M} {op : M → M → M} (laws : Lattice op) {targe
           there = omega (arith, u .there);
           is = κ .stacked h (u .there) ∙ u .is;
           hop = hop;
-          settled = fine-kept;
-          more = fine-new;
-          taken = λ q t′ l b e i. link-kept {s = s} {s′ = s′} κ up x t′ (u .in-x) i x-seen (u .taken q t′ l b e i);
+          settled = settled-kept;
+          more = settled-new;
+          taken = λ q t′ l b e i. taken-kept {s = s} {s′ = s′} κ up x t′ (u .in-x) i x-seen (u .taken q t′ l b e i);
           kept = record {
             marked = λ p l nz.
                 let one = u .kept .marked p l nz in

@@ -1,9 +1,9 @@
 -- How many places are not seen yet.
-use mathlib.Core.Path.{_≡_, refl, sym, ap, subst, _∙_}
-use mathlib.Core.Logic.{_⊎_, inl, inr, ⊎-elim}
 use mathlib.Core.Bool.{Bool, true, false, cond}
 use mathlib.Core.List.{List}
-use Prim.Native.Nat.{ℕ, zero, suc, _+_, _<_, _≤_}
+use mathlib.Core.Logic.{⊎-elim}
+use mathlib.Core.Path.{_≡_, refl, sym, ap, _∙_}
+use Prim.Native.Nat.{ℕ, zero, suc, _+_, _<_}
 use native.Mathlib.Omega.{arith}
 use lib.Dec.{eqb}
 use lib.ListN.{length, getD, set}
@@ -17,15 +17,14 @@ count-same f g (suc n) h =
     let rest : count g n ≡ count f n = count-same f g n (λ p l. h p (omega arith)) in
     ap (λ v. cond v 1 0 + count g n) (h n (omega arith)) ∙ ap (λ m. cond (f n) 1 0 + m) rest
 
+count-last : (f g : ℕ → Bool) (n : ℕ) → f n ≡ true → g n ≡ false → count g n ≡ count f n → count g (suc n) + 1 ≡ count f (suc n)
+count-last f g n y z rest = rw (z, y) (omega arith)
+
 count-less : (f g : ℕ → Bool) (i n : ℕ) → i < n → f i ≡ true → g i ≡ false → ((p : ℕ) → p < n → (p ≡ i → ⊥) → g p ≡ f p) → count g n + 1 ≡ count f n
 count-less f g i zero l y z h = absurd (omega arith)
 count-less f g i (suc n) l y z h =
     ⊎-elim
-    (λ e.
-    let rest : count g n ≡ count f n = count-same f g n (λ p b. h p (omega arith) (λ e′. omega arith)) in
-    let gone : g n ≡ false = ap g e ∙ z in
-    let free : f n ≡ true = ap f e ∙ y in
-    rw (gone, free) (omega arith))
+    (λ e. count-last f g n (ap f e ∙ y) (ap g e ∙ z) (count-same f g n (λ p b. h p (omega arith) (λ e′. omega arith))))
     (⊎-elim
     (λ lt. absurd (omega arith))
     (λ gt.

@@ -1,5 +1,5 @@
 pub mod Bitwise
-pub mod SetMembers
+pub mod Sets
 pub mod Parts
 pub mod Paths
 pub mod Tracing
@@ -7,6 +7,7 @@ mod Listed
 mod Counts
 mod Closing
 mod Turns
+mod Pushes
 mod Calls
 mod Folds
 mod Pops

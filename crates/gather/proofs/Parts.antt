@@ -1,5 +1,5 @@
 -- The laws of a join, and what is part of what.
-use mathlib.Core.Path.{_≡_, refl, sym, ap, _∙_}
+use mathlib.Core.Path.{_≡_, sym, ap, _∙_}
 use Rattle.gather.specs.Gathered.{PartOf}
 
 pub record Lattice {M : Type 0} (op : M → M → M) : Type 0 where

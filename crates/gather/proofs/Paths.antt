@@ -1,10 +1,9 @@
 -- Ways from place to place, and what is joined from the seeds at their ends.
 use mathlib.Core.List.{List}
-use mathlib.Core.Path.{_≡_}
 use Prim.Native.Nat.{ℕ, _<_}
 use lib.ListN.{length, getD}
 use Rattle.gather.specs.Gathered.{PartOf, JoinedFrom, seed, both}
-use Rattle.gather.specs.Reach.{Step, Reaches, here, step}
+use Rattle.gather.specs.Reach.{Reaches, here, step}
 use Rattle.gather.proofs.Parts.{Lattice, part-both}
 
 -- One way after another.

@@ -1,20 +1,20 @@
--- The end of a walk: the place stays on the stack, or its component is complete.
-use mathlib.Core.Path.{_≡_, refl, sym, ap, subst, _∙_}
-use mathlib.Core.Logic.{_⊎_, inl, inr, ⊎-elim}
+-- The end of a walk: x stays on the stack, or its component is complete and leaves it.
 use mathlib.Core.List.{List}
-use Prim.Native.Nat.{ℕ, zero, suc, _+_, _-_, _<_, _≤_, min}
+use mathlib.Core.Logic.{_⊎_, inl, inr, ⊎-elim}
+use mathlib.Core.Path.{_≡_, refl, sym, ap, subst, _∙_}
+use Prim.Native.Nat.{ℕ, zero, suc, _+_, _-_, _<_, _≤_}
 use native.Mathlib.Omega.{arith}
-use lib.ListN.{length, getD, set}
+use lib.ListN.{length, getD}
 use Rattle.std.proofs.shelf.Tests.{cases-eq, cases-order, cases-lt}
 use Rattle.gather.specs.Gathered.{PartOf, JoinedFrom}
-use Rattle.gather.specs.Reach.{Step, Reaches, here, step}
-use Rattle.gather.specs.Stack.{Snapshot, snap, value, mark, at, unseen, Closed, Sound, TakenIn, Settled, Kept, Stays, Walked}
+use Rattle.gather.specs.Reach.{Step, Reaches, here}
+use Rattle.gather.specs.Stack.{Snapshot, snap, value, mark, at, unseen, Closed, Sound, TakenIn, Walked}
 use Rattle.gather.proofs.Counts.{unseen-same}
 use Rattle.gather.proofs.Parts.{Lattice, part-trans, part-as}
 use Rattle.gather.proofs.Paths.{reach-on, joined-on}
 use Rattle.gather.proofs.Turns.{Turn}
 
--- a number stands in a part of a list, or at no place of it
+-- A number stands in a part of a list, or nowhere in it.
 look : (xs : List ℕ) (p lo hi : ℕ) → ((a : ℕ) × (lo ≤ a) × (a < hi) × (getD xs a 0 ≡ p)) ⊎ ((a : ℕ) → lo ≤ a → a < hi → getD xs a 0 ≡ p → ⊥)
 look xs p lo zero = inr (λ a g l e. omega arith)
 look xs p lo (suc hi) =
@@ -32,8 +32,8 @@ look xs p lo (suc hi) =
     (look xs p lo hi)
 
 module _ {M : Type 0} {none : M} {op : M → M → M} (laws : Lattice op) {targets : ℕ → List ℕ} {seeds : List M} {s₀ s : Snapshot M} {x k : ℕ} (u : Turn none op targets seeds s₀ s x (s₀ .top) k) (all : length (targets x) ≤ k) where
-  links-x : (t : ℕ) → Step (length seeds) targets x t → TakenIn none op targets seeds s x t
-  links-x t hop = u .taken (hop .nr) t (omega (arith, hop .listed)) (hop .listed) (hop .there) (hop .inside)
+  taken-x : (t : ℕ) → Step (length seeds) targets x t → TakenIn none op targets seeds s x t
+  taken-x t hop = u .taken (hop .nr) t (omega (arith, hop .listed)) (hop .listed) (hop .there) (hop .inside)
 
   x-as : mark s (at s (s₀ .top)) ≡ mark s x
   x-as = ap (mark s) (u .is)
@@ -42,9 +42,9 @@ module _ {M : Type 0} {none : M} {op : M → M → M} (laws : Lattice op) {targe
   stay ne =
       let low = u .sound .low (s₀ .top) (u .there) in
       let less : mark s x ≤ s₀ .top = ⊎-elim (λ e. absurd (ne e)) (⊎-elim (λ lt. omega arith) (λ gt. absurd (omega (arith, x-as)))) (cases-order (mark s x) (s₀ .top + 1)) in
-      record { sound = u .sound; kept = u .kept; ends = inr (record { there = u .there; is = u .is; low = less; settled = u .settled; taken = links-x }) }
+      record { sound = u .sound; kept = u .kept; ends = inr (record { there = u .there; is = u .is; low = less; settled = u .settled; taken = taken-x }) }
 
-  -- x is the lowest place of its component, which is closed
+  -- The place x is the lowest of its component on the stack, and the component is closed.
   module _ (root : mark s x ≡ s₀ .top + 1) (vals′ : List M) (marks′ : List ℕ) (long : length vals′ ≡ length (s .values)) (longs : length marks′ ≡ length (s .marks))
       (shut : Closed none (value none s x) (s .stack) (s .marks) marks′ (s .values) vals′ (s₀ .top) (s .top)) where
     abbrev pub popped : Snapshot M
@@ -53,7 +53,7 @@ module _ {M : Type 0} {none : M} {op : M → M → M} (laws : Lattice op) {targe
     short : s .top ≤ 2304
     short = omega (arith, u .sound .free, u .sound .few)
 
-    -- what stands from x on
+    -- What stands on the stack from x on.
     high : (a : ℕ) → s₀ .top ≤ a → a < s .top → s₀ .top + 1 ≤ mark s (at s a)
     high a g l =
         ⊎-elim
@@ -61,23 +61,23 @@ module _ {M : Type 0} {none : M} {op : M → M → M} (laws : Lattice op) {targe
         (⊎-elim (λ lt. absurd (omega arith)) (λ gt. omega (arith, u .settled a gt l .above)))
         (cases-order a (s₀ .top))
 
-    under : (a : ℕ) → s₀ .top ≤ a → a < s .top → op (value none s (at s a)) (value none s x) ≡ value none s x
+    under : (a : ℕ) → s₀ .top ≤ a → a < s .top → PartOf op (value none s (at s a)) (value none s x)
     under a g l =
         ⊎-elim
-        (λ e. subst (λ p. op (value none s p) (value none s x) ≡ value none s x) (sym (ap (at s) e ∙ u .is)) (laws .idem (value none s x)))
+        (λ e. subst (λ p. PartOf op (value none s p) (value none s x)) (sym (ap (at s) e ∙ u .is)) (laws .idem (value none s x)))
         (⊎-elim (λ lt. absurd (omega arith)) (λ gt. u .settled a gt l .under))
         (cases-order a (s₀ .top))
 
-    links : (a : ℕ) → s₀ .top ≤ a → a < s .top → (t : ℕ) → Step (length seeds) targets (at s a) t → TakenIn none op targets seeds s (at s a) t
-    links a g l t hop =
+    taken : (a : ℕ) → s₀ .top ≤ a → a < s .top → (t : ℕ) → Step (length seeds) targets (at s a) t → TakenIn none op targets seeds s (at s a) t
+    taken a g l t hop =
         ⊎-elim
         (λ e.
         let is : at s a ≡ x = ap (at s) e ∙ u .is in
-        subst (λ p. TakenIn none op targets seeds s p t) (sym is) (links-x t (subst (λ p. Step (length seeds) targets p t) is hop)))
+        subst (λ p. TakenIn none op targets seeds s p t) (sym is) (taken-x t (subst (λ p. Step (length seeds) targets p t) is hop)))
         (⊎-elim (λ lt. absurd (omega arith)) (λ gt. u .settled a gt l .taken t hop))
         (cases-order a (s₀ .top))
 
-    -- each of them reaches x
+    -- Each of them reaches x.
     climb : (c a : ℕ) → a < c → s₀ .top ≤ a → a < s .top → Reaches (length seeds) targets (at s a) x
     climb zero a b g l = absurd (omega arith)
     climb (suc c) a b g l =
@@ -101,25 +101,25 @@ module _ {M : Type 0} {none : M} {op : M → M → M} (laws : Lattice op) {targe
     mark-in : (p a : ℕ) → s₀ .top ≤ a → a < s .top → at s a ≡ p → mark popped p ≡ 2305
     mark-in p a g l e = ap (mark popped) (sym e) ∙ shut .marked a g l
 
-    val-in : (p a : ℕ) → s₀ .top ≤ a → a < s .top → at s a ≡ p → value none popped p ≡ value none s x
-    val-in p a g l e = ap (value none popped) (sym e) ∙ shut .valued a g l
+    value-in : (p a : ℕ) → s₀ .top ≤ a → a < s .top → at s a ≡ p → value none popped p ≡ value none s x
+    value-in p a g l e = ap (value none popped) (sym e) ∙ shut .valued a g l
 
     pop-only : (p : ℕ) → p < length seeds → JoinedFrom none op targets seeds p (value none popped p)
     pop-only p l =
         ⊎-elim
         (λ on.
         let way : Reaches (length seeds) targets p x = subst (λ q. Reaches (length seeds) targets q x) (on .3) (climb (suc (on .0)) (on .0) (omega arith) (on .1) (on .2)) in
-        subst (JoinedFrom none op targets seeds p) (sym (val-in p (on .0) (on .1) (on .2) (on .3))) (joined-on way (u .sound .only x (u .in-x))))
+        subst (JoinedFrom none op targets seeds p) (sym (value-in p (on .0) (on .1) (on .2) (on .3))) (joined-on way (u .sound .only x (u .in-x))))
         (λ off. subst (JoinedFrom none op targets seeds p) (sym (shut .others p off .1)) (u .sound .only p l))
         (look (s .stack) p (s₀ .top) (s .top))
 
-    pop-own : (p : ℕ) → p < length seeds → op (getD seeds p none) (value none popped p) ≡ value none popped p
+    pop-own : (p : ℕ) → p < length seeds → PartOf op (getD seeds p none) (value none popped p)
     pop-own p l =
         ⊎-elim
         (λ on.
-        let inner : op (value none s p) (value none s x) ≡ value none s x = subst (λ q. op (value none s q) (value none s x) ≡ value none s x) (on .3) (under (on .0) (on .1) (on .2)) in
-        subst (λ y. op (getD seeds p none) y ≡ y) (sym (val-in p (on .0) (on .1) (on .2) (on .3))) (part-trans laws (getD seeds p none) (value none s p) (value none s x) (u .sound .own p l) inner))
-        (λ off. subst (λ y. op (getD seeds p none) y ≡ y) (sym (shut .others p off .1)) (u .sound .own p l))
+        let inner : PartOf op (value none s p) (value none s x) = subst (λ q. PartOf op (value none s q) (value none s x)) (on .3) (under (on .0) (on .1) (on .2)) in
+        subst (λ y. PartOf op (getD seeds p none) y) (sym (value-in p (on .0) (on .1) (on .2) (on .3))) (part-trans laws (getD seeds p none) (value none s p) (value none s x) (u .sound .own p l) inner))
+        (λ off. subst (λ y. PartOf op (getD seeds p none) y) (sym (shut .others p off .1)) (u .sound .own p l))
         (look (s .stack) p (s₀ .top) (s .top))
 
     same-unseen : unseen marks′ ≡ unseen (s .marks)
@@ -129,24 +129,24 @@ module _ {M : Type 0} {none : M} {op : M → M → M} (laws : Lattice op) {targe
           λ z. ⊎-elim (λ on. absurd (omega (arith, mark-in p (on .0) (on .1) (on .2) (on .3)))) (λ off. sym (shut .others p off .0) ∙ z) (look (s .stack) p (s₀ .top) (s .top)),
         ))
 
-    pop-closed : (p t : ℕ) → p < length seeds → mark popped p ≡ 2305 → Step (length seeds) targets p t → (mark popped t ≡ 2305) × (op (value none popped t) (value none popped p) ≡ value none popped p)
+    pop-closed : (p t : ℕ) → p < length seeds → mark popped p ≡ 2305 → Step (length seeds) targets p t → (mark popped t ≡ 2305) × (PartOf op (value none popped t) (value none popped p))
     pop-closed p t l d hop =
         ⊎-elim
         (λ on.
         let a = on .0 in
-        let vp = val-in p a (on .1) (on .2) (on .3) in
+        let vp = value-in p a (on .1) (on .2) (on .3) in
         let hop′ : Step (length seeds) targets (at s a) t = subst (λ q. Step (length seeds) targets q t) (sym (on .3)) hop in
         ⊎-elim
         (λ done.
         let off = done-away t (done .0) in
         let old = shut .others t off in
         (old .0 ∙ done .0, part-as op (value none s t) (value none popped t) (value none s x) (value none popped p) (old .1) vp (part-trans laws (value none s t) (value none s (at s a)) (value none s x) (done .1) (under a (on .1) (on .2)))))
-        (λ link.
+        (λ on-stack.
         let up = high a (on .1) (on .2) in
-        let from : s₀ .top ≤ link .0 = omega (arith, link .3) in
-        let vt = val-in t (link .0) from (link .1) (link .2) in
-        (mark-in t (link .0) from (link .1) (link .2), part-as op (value none s x) (value none popped t) (value none s x) (value none popped p) vt vp (laws .idem (value none s x))))
-        (links a (on .1) (on .2) t hop′))
+        let from : s₀ .top ≤ on-stack .0 = omega (arith, on-stack .3) in
+        let vt = value-in t (on-stack .0) from (on-stack .1) (on-stack .2) in
+        (mark-in t (on-stack .0) from (on-stack .1) (on-stack .2), part-as op (value none s x) (value none popped t) (value none s x) (value none popped p) vt vp (laws .idem (value none s x))))
+        (taken a (on .1) (on .2) t hop′))
         (λ off.
         let old-p = shut .others p off in
         let old = u .sound .done p t l (sym (old-p .0) ∙ d) hop in

@@ -1,7 +1,7 @@
 -- What follows from a gathered list: it is the only one, and tests of its values are traced back to the seeds.
 use mathlib.Core.Bool.{Bool, true, _||_}
 use mathlib.Core.List.{List}
-use mathlib.Core.Logic.{inl, inr, ⊎-elim}
+use mathlib.Core.Logic.{⊎-elim}
 use mathlib.Core.Path.{_≡_, refl, sym, ap, subst, _∙_}
 use Prim.Native.Nat.{ℕ, _<_}
 use native.Mathlib.Omega.{arith}
@@ -11,10 +11,10 @@ use Rattle.std.proofs.shelf.Tests.{or-cases, or-left}
 use Rattle.gather.specs.Gathered.{PartOf, JoinedFrom, seed, both, Gathered, Traced, TracedBy, Once}
 use Rattle.gather.specs.Marks.{MarksReached}
 use Rattle.gather.specs.Members.{has, MembersReached}
-use Rattle.gather.specs.Reach.{Step, Reaches, here, step, ReachesSome}
+use Rattle.gather.specs.Reach.{ReachesSome}
 use Rattle.gather.proofs.Parts.{Lattice}
 use Rattle.gather.proofs.Paths.{joined-part}
-use Rattle.gather.proofs.SetMembers.{has-unite}
+use Rattle.gather.proofs.Sets.{has-unite}
 
 pub once : {M : Type 0} (none : M) (op : M → M → M) → Lattice op → Once none op
 once none op laws targets seeds a b p q =
@@ -40,6 +40,17 @@ module _ {M : Type 0} (none : M) (op : M → M → M) (test : M → Bool) (split
     back = joined-back targets seeds (g .only i inside);
     forth = λ r. part-test (getD seeds (r .place) none) (getD values i none) (g .all i (r .place) inside (r .reached)) (r .passes);
   }
+
+  -- The same where the list is known to have n places.
+  module _ {n : ℕ} {targets : ℕ → List ℕ} {seeds values : List M} (size : length seeds ≡ n) (g : Gathered none op targets seeds values) (i : ℕ) (inside : i < n) where
+    traced : Traced none op targets seeds test values i
+    traced = traced-by targets seeds values g i (subst (λ m. i < m) (sym size) inside)
+
+    pub trace-back : test (getD values i none) ≡ true → ReachesSome n targets i (λ j. test (getD seeds j none))
+    trace-back h = subst (λ m. ReachesSome m targets i (λ j. test (getD seeds j none))) size (traced .back h)
+
+    pub trace-forth : ReachesSome n targets i (λ j. test (getD seeds j none)) → test (getD values i none) ≡ true
+    trace-forth r = traced .forth (subst (λ m. ReachesSome m targets i (λ j. test (getD seeds j none))) (sym size) r)
 
 pub members-reached : MembersReached
 members-reached k = traced-by _ _ (λ s. has s k) (λ a b. has-unite a b k)

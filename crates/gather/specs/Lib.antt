@@ -1,5 +1,6 @@
+pub mod Bits
+pub mod Members
+pub mod Marks
 pub mod Reach
 pub mod Gathered
-pub mod Marks
-pub mod Members
 pub mod Stack

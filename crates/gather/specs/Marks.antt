@@ -11,7 +11,7 @@ marked m = m .0
 abbrev pub noMark : Mark
 noMark = record { 0 = false }
 
--- Yes if one of the two is.
+-- Yes if either is.
 abbrev pub eitherMark : Mark → Mark → Mark
 eitherMark a b = record { 0 = (a .0 || b .0) }
 

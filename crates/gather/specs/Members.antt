@@ -1,21 +1,21 @@
 -- The members of word sets.
 use mathlib.Core.Bool.{Bool}
 use mathlib.Core.Path.{_≡_}
-use Prim.Native.Nat.{ℕ, _/_, _%_, _^_}
+use Prim.Native.Nat.{ℕ}
 use lib.Bits.{bitOr}
-use lib.Dec.{eqb}
+use Rattle.gather.specs.Bits.{isBit}
 use Rattle.gather.specs.Gathered.{TracedBy}
 use Rattle.gather.specs.declared.word_set.WordSet.{WordSet}
 
--- Whether k is a member: the bit at place k is 1.
-unfoldable pub has : WordSet → ℕ → Bool
-has s k = eqb (s .0 / 2 ^ k % 2) 1
+-- Whether k is a member.
+abbrev pub has : WordSet → ℕ → Bool
+has s k = isBit (s .0) k
 
 -- The set without members.
 abbrev pub noMembers : WordSet
 noMembers = record { 0 = 0 }
 
--- The members of both.
+-- What is a member of either.
 abbrev pub unite : WordSet → WordSet → WordSet
 unite a b = record { 0 = bitOr (a .0) (b .0) }
 

@@ -1,7 +1,10 @@
 // Gathering: each place of a list ends with the join of its own seed and the seeds of all places that it reaches.
+mod bits;
 mod join;
 mod mark;
 mod relation;
+#[cfg(test)]
+mod tests;
 mod theorems;
 mod walk;
 mod word_set;

@@ -14,7 +14,17 @@ pub const PLACES: usize = 2304;
 // The mark of a place whose component is complete.
 const DONE: usize = 2305;
 
-// Gives the value to each place on the stack from `low` up to `high`, and marks it as done.
+// Gives the value to a place, and marks the place as done.
+fn settle<J: Join>(values: &mut [J], marks: &mut [usize], place: usize, value: J)
+    requires { ⌜ (place < length (now values)) × (place < length (now marks)) ⌝ }
+    ensures marked { λ _. ⌜ now (marks .exit) ≡ set (now (marks .entry)) place 2305 ⌝ }
+    ensures valued { λ _. ⌜ now (values .exit) ≡ set (now (values .entry)) place value ⌝ }
+{
+    marks[place] = DONE;
+    values[place] = value;
+}
+
+// Settles each place on the stack from `low` up to `high`: a whole component has one value.
 fn close<J: Join>(
     values: &mut [J],
     marks: &mut [usize],
@@ -28,9 +38,7 @@ fn close<J: Join>(
     ensures { λ _. ⌜ Closed (J·Join .none) value (now (stack .entry)) (now (marks .entry)) (now (marks .exit)) (now (values .entry)) (now (values .exit)) low high ⌝ }
 {
     for a in low..high {
-        let place = stack[a];
-        marks[place] = DONE;
-        values[place] = value;
+        settle(values, marks, stack[a], value);
     }
 }
 
@@ -80,23 +88,37 @@ fn traverse<J: Join, R: Relation>(
     high
 }
 
+// Walks from every place that was not seen on the way from an earlier one.
+fn walk_all<J: Join, R: Relation>(
+    values: &mut [J],
+    marks: &mut [usize],
+    stack: &mut [usize],
+    relation: &R,
+)
+    requires { ⌜ Sound (J·Join .none) (J·Join .op) (R·Relation .targets (now relation)) (now values) (snap (now values) (now marks) (now stack) 0) ⌝ }
+    ensures sound { λ _. ⌜ Sound (J·Join .none) (J·Join .op) (R·Relation .targets (now (relation .entry))) (now (values .entry)) (snap (now (values .exit)) (now (marks .exit)) (now (stack .exit)) 0) ⌝ }
+    ensures done { λ _. ⌜ ((p : ℕ) → p < length (now (values .entry)) → getD (now (marks .exit)) p 0 ≡ 2305) ⌝ }
+{
+    let n = values.len();
+    for x in 0..n {
+        if marks[x] == 0 {
+            let _top = traverse(values, marks, stack, 0, x, relation);
+        }
+    }
+}
+
 // Each place ends with the join of its own seed and the seeds of all places that it reaches.
 // A list of more than 2,304 places is left as it is, and answered no.
-// Each place is walked from once, and each place's list is told once.
+// This is the Digraph walk of DeRemer and Pennello: each place is walked from once, and its list is told once.
 pub fn gather<J: Join, R: Relation>(values: &mut [J], relation: &R) -> bool
     ensures refused { λ r. ⌜ (2304 < length (now (values .entry)) → (r ≡ false) × (now (values .exit) ≡ now (values .entry))) ⌝ }
     ensures gathered { λ r. ⌜ (length (now (values .entry)) ≤ 2304 → (r ≡ true) × Gathered (J·Join .none) (J·Join .op) (R·Relation .targets (now (relation .entry))) (now (values .entry)) (now (values .exit))) ⌝ }
 {
-    let n = values.len();
-    if n > PLACES {
+    if values.len() > PLACES {
         return false;
     }
     let mut marks = [0; PLACES];
     let mut stack = [0; PLACES];
-    for x in 0..n {
-        if marks[x] == 0 {
-            let _top = traverse(values, &mut marks, &mut stack, 0, x, relation);
-        }
-    }
+    walk_all(values, &mut marks, &mut stack, relation);
     true
 }

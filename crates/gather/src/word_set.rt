@@ -3,6 +3,9 @@ ghost use Rattle.gather.specs.Members.{has, noMembers, unite};
 ghost use lib.Dec.{eqb, ltb};
 ghost use mathlib.Core.Bool.{_&&_, _||_, false};
 ghost use mathlib.Core.Path.{_≡_};
+use super::bits::bit;
+use super::bits::either;
+use super::bits::only;
 use super::join::Join;
 
 // A set of numbers from 0 to 63: the bit at place k says whether k is a member.
@@ -14,36 +17,29 @@ impl WordSet {
     pub fn empty() -> WordSet
         ensures { λ r. ⌜ ((k : ℕ) → has r k ≡ false) ⌝ }
     {
-        WordSet(0)
+        Self(0)
     }
 
     // The set of this number alone; empty if the number is above 63.
     pub fn one(number: usize) -> WordSet
         ensures { λ r. ⌜ ((k : ℕ) → has r k ≡ (ltb number 64 && eqb k number)) ⌝ }
     {
-        if number < 64 {
-            WordSet(1 << number)
-        } else {
-            WordSet(0)
-        }
+        WordSet(only(number))
     }
 
     // Whether the number is a member.
     pub fn has(self, number: usize) -> bool
         ensures { λ r. ⌜ r ≡ has self number ⌝ }
     {
-        if number < 64 {
-            (self.0 >> number) & 1 == 1
-        } else {
-            false
-        }
+        bit(self.0, number)
     }
 
-    // The members of both.
+    // What is a member of either.
     pub fn union(self, other: WordSet) -> WordSet
-        ensures { λ r. ⌜ ((k : ℕ) → has r k ≡ (has self k || has other k)) ⌝ }
+        ensures is { λ r. ⌜ r ≡ unite self other ⌝ }
+        ensures members { λ r. ⌜ ((k : ℕ) → has r k ≡ (has self k || has other k)) ⌝ }
     {
-        WordSet(self.0 | other.0)
+        WordSet(either(self.0, other.0))
     }
 }
 
@@ -59,6 +55,6 @@ pub impl Join for WordSet as WordSetJoin {
     }
 
     fn join(self, other: WordSet) -> WordSet {
-        WordSet(self.0 | other.0)
+        self.union(other)
     }
 }
