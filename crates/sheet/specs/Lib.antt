@@ -1,14 +1,4 @@
 pub mod Packing
 pub mod Packs
 pub mod Readings
-pub mod Tokens
-pub mod Statements
-pub mod Form
-pub mod Lexing
-pub mod Spelled
-pub mod RuleTables
-pub mod Walks
-pub mod Drafts
-pub mod WrittenSheets
-pub mod Stages
 pub mod Supplements

@@ -26,7 +26,10 @@ fn explain_place(rt: &LibcRuntime, text: &[u8], place: usize) -> io::Result<()> 
         return println!(rt, "the sheet ends before its last statement does");
     }
     let (line, column) = line_and_column(text, place);
-    println!(rt, "line {line}, column {column}: this cannot stand here, or it is a name that no statement begins with")
+    println!(
+        rt,
+        "line {line}, column {column}: this cannot stand here, or it is a name that no statement begins with"
+    )
 }
 
 pub fn explain(rt: &LibcRuntime, text: &[u8], refusal: Refusal) -> io::Result<()> {
@@ -34,7 +37,10 @@ pub fn explain(rt: &LibcRuntime, text: &[u8], refusal: Refusal) -> io::Result<()
         Refusal::Form { place } => explain_place(rt, text, place),
         Refusal::Limits => {
             println!(rt, "refused 3")?;
-            println!(rt, "a sheet has 1 to 63 words, 1 to 24 phrase kinds and 1 to 96 rules, and at most 8 of them on a right side")
+            println!(
+                rt,
+                "a sheet has 1 to 63 words, 1 to 24 phrase kinds and 1 to 96 rules, and at most 8 codes on a right side"
+            )
         }
         other => {
             let number = other.number();

@@ -5,11 +5,11 @@ use grammar::Refusal;
 use sheet::PackedRuleSheet;
 use sheet::PackedSheet;
 use sheet::RuleSheet;
-use sheet::WrittenRuleSheet;
-use sheet::WrittenSheet;
 use sheet::pack;
 use std::io;
 use std::io::Write;
+use written::WrittenRuleSheet;
+use written::WrittenSheet;
 
 mod explain;
 
@@ -49,7 +49,10 @@ fn print_packed<S: RuleSheet>(rt: &LibcRuntime, sheet: &S) -> io::Result<()> {
     let terminals = sheet.terminals();
     let nonterminals = sheet.nonterminals();
     let rules = sheet.rules();
-    println!(rt, "{terminals} words, {nonterminals} phrase kinds, {rules} rules")?;
+    println!(
+        rt,
+        "{terminals} words, {nonterminals} phrase kinds, {rules} rules"
+    )?;
     println!(rt, "{terminals} {nonterminals} {rules}")?;
     print_contents(rt, sheet)?;
     for i in 0..rules {

@@ -1,0 +1,10 @@
+pub mod Tokens
+pub mod Statements
+pub mod Form
+pub mod Stages
+pub mod Lexing
+pub mod Spelled
+pub mod RuleTables
+pub mod Walks
+pub mod Drafts
+pub mod WrittenSheets
