@@ -18,6 +18,8 @@ pub mod TakenWords
 pub mod MachineSteps
 pub mod Midway
 pub mod RefusedTurns
+pub mod FullTurns
+pub mod TurnEffects
 pub mod Agreement
 pub mod Completion
 pub mod Moves

@@ -1,6 +1,7 @@
 -- Runs of the machine, one after another, and that they agree where no cell has two actions.
 use mathlib.Core.Path.{_≡_, refl, sym, ap, ap₂, subst, _∙_}
 use mathlib.Core.List.{List, [], _∷_, _++_, head-eq-of-cons-eq, append-nil}
+use mathlib.Core.Logic.{_⊎_, inl, inr, ⊎-elim}
 use mathlib.Core.Option.{some}
 use Prim.Native.Nat.{ℕ, _≤_, suc-le-suc}
 use native.Mathlib.Omega.{arith}
@@ -85,3 +86,15 @@ module _ {G : Grammar} {A : Automaton} where
     most-rules (Run.reduce h d g x) (Run.shift k y) = absurd (shift-not-reduce (free _ _ _ _ k h))
     most-rules (Run.shift h x) (Run.reduce k d g y) = absurd (shift-not-reduce (free _ _ _ _ h k))
     most-rules (Run.reduce h d g x) (Run.reduce {w = w} {σ = σ} {i = i} {ps = qs} {τ = υ} {j = j} k d′ g′ y) = suc-le-suc (most-rules x (subst (λ l. Run G A l (w ∷ i) qs υ j) (same-stack σ h d g k d′ g′) y))
+
+    -- A run notes no more rules than another from the same place, or goes on from where that ends.
+    pub onward : {σ i ps τ j qs υ k : List ℕ} → Run G A σ i ps τ j → Run G A σ i qs υ k → (length qs ≤ length ps) ⊎ ((rs : List ℕ) × (qs ≡ ps ++ rs) × Run G A τ j rs υ k)
+    onward {qs = qs} halt y = inr (qs, refl, y)
+    onward (Run.shift h x) halt = inl (omega arith)
+    onward (Run.reduce h d g x) halt = inl (omega arith)
+    onward (Run.shift h x) (Run.shift {s = s} {σ = σ} {i = i} {ps = qs} {τ = υ} {j = k} h′ y) = onward x (subst (λ t. Run G A (t ∷ s ∷ σ) i qs υ k) (same-shift (free _ _ _ _ h′ h)) y)
+    onward (Run.shift h x) (Run.reduce h′ d g y) = absurd (shift-not-reduce (free _ _ _ _ h h′))
+    onward (Run.reduce h d g x) (Run.shift h′ y) = absurd (shift-not-reduce (free _ _ _ _ h′ h))
+    onward (Run.reduce {r = r} h d g x) (Run.reduce {w = w} {r = r′} {σ = σ} {i = i} {ps = qs} {τ = υ} {j = k} h′ d′ g′ y) =
+        ⊎-elim (λ e. inl (suc-le-suc e)) (λ z. inr (z .0, ap₂ (λ n l. n ∷ l) (sym (same-reduce (free _ _ _ _ h h′))) (z .1), z .2))
+        (onward x (subst (λ l. Run G A l (w ∷ i) qs υ k) (same-stack σ h d g h′ d′ g′) y))

@@ -1,0 +1,10 @@
+pub mod TurnLists
+pub mod EntryLists
+pub mod ShownTurns
+pub mod Unreadiness
+pub mod FreshTurns
+pub mod JudgeTurns
+pub mod WordTurns
+pub mod BookTurns
+pub mod Promised
+pub mod Histories

@@ -1,0 +1,10 @@
+pub mod Turns
+pub mod Account
+pub mod Entries
+pub mod RightAnswers
+pub mod Law
+pub mod Model
+pub mod Shows
+pub mod History
+pub mod WorkedEntry
+pub mod Theorems
