@@ -1,8 +1,9 @@
 -- A page of numbers: what it holds, what is free, and how it grows.
 use mathlib.Core.Path.{_≡_}
 use mathlib.Core.List.{List, []}
-use Prim.Native.Nat.{ℕ, _-_, min}
-use lib.ListN.{length, take}
+use mathlib.Core.Bool.{Bool, true, false}
+use Prim.Native.Nat.{ℕ, _+_, _-_, _<_, min}
+use lib.ListN.{length, take, set}
 use denote.Ref.{RefT, name, now}
 use Rattle.book.specs.declared.number_page.NumberPage.{NumberPage}
 use Rattle.book.specs.Overwriting.{Grown}
@@ -32,3 +33,9 @@ numberGrows p ns q =
 abbrev pub NumberOpened : RefT (List ℕ) → NumberPage → Type 0
 NumberOpened memory p =
     (name (p .memory) ≡ name memory) × (now (p .memory) ≡ now memory) × (numberList p ≡ []) × (numberFree p ≡ min (length (now memory)) 65536)
+
+-- The number is written into the cell behind those held, and into no other; a full page stays the same.
+abbrev pub NumberWritten : NumberPage → ℕ → Bool → NumberPage → Type 0
+NumberWritten p n true q =
+    (heldBy p < capacityOf p) × (name (q .memory) ≡ name (p .memory)) × (now (q .memory) ≡ set (now (p .memory)) (heldBy p) n) × (q .used ≡ heldBy p + 1)
+NumberWritten p n false q = (heldBy p ≡ capacityOf p) × (q ≡ p)

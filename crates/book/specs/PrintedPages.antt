@@ -1,11 +1,13 @@
 -- A printed page: what it holds, what is free, and how it grows.
 use mathlib.Core.Path.{_≡_}
 use mathlib.Core.List.{List, []}
-use Prim.Native.Nat.{ℕ, _-_, _*_, _/_, min}
+use mathlib.Core.Bool.{Bool, true, false}
+use Prim.Native.Nat.{ℕ, _+_, _-_, _*_, _/_, _<_, min}
+use borrow.Rule.Slice.PartMut.{putMid}
 use lib.ListN.{length, take}
 use denote.Ref.{RefT, name, now}
 use Rattle.book.specs.declared.printed_page.PrintedPage.{PrintedPage}
-use Rattle.book.specs.Decimals.{printed, readLines}
+use Rattle.book.specs.Decimals.{sixBytes, printed, readLines}
 use Rattle.book.specs.Overwriting.{Grown}
 
 -- How many numbers the memory takes in all: one for six bytes, 65,536 at most.
@@ -41,3 +43,12 @@ PrintedOpened memory p =
 -- The bytes are those of just the numbers put, on a page that was empty at first.
 abbrev pub AsPut : List ℕ → PrintedPage → Type 0
 AsPut bytes p = (first : PrintedPage) (ns : List ℕ) → printedList first ≡ [] → printedGrows first ns p → bytes ≡ printed ns
+
+-- The number is printed behind those held, and no other byte is written; a full page stays the same.
+abbrev pub PrintedWritten : PrintedPage → ℕ → Bool → PrintedPage → Type 0
+PrintedWritten p n true q =
+    (heldBy p < capacityOf p)
+    × (name (q .memory) ≡ name (p .memory))
+    × (now (q .memory) ≡ putMid (6 * heldBy p) 6 (now (p .memory)) (sixBytes n))
+    × (q .used ≡ heldBy p + 1)
+PrintedWritten p n false q = (heldBy p ≡ capacityOf p) × (q ≡ p)

@@ -1,5 +1,5 @@
 ghost use Rattle.book.specs.NumberLaws.{numberLaws};
-ghost use Rattle.book.specs.NumberPages.{NumberOpened, capacityOf, heldBy, numberFree, numberGrows, numberList};
+ghost use Rattle.book.specs.NumberPages.{NumberOpened, NumberWritten, capacityOf, heldBy, numberFree, numberGrows, numberList};
 ghost use mathlib.Core.Path.{_≡_};
 use super::book::Book;
 
@@ -39,6 +39,19 @@ impl<'a> NumberPage<'a> {
     {
         self.used.min(self.capacity())
     }
+
+    // Writes the number into the next cell, unless the page is full.
+    fn write(&mut self, number: u16) -> bool
+        ensures { λ r. ⌜ NumberWritten (now (self .entry)) number r (now (self .exit)) ⌝ }
+    {
+        let held = self.held();
+        if held == self.capacity() {
+            return false;
+        }
+        self.memory[held] = number;
+        self.used = held + 1;
+        true
+    }
 }
 
 pub impl<'a> Book for NumberPage<'a> as NumberBook {
@@ -59,12 +72,6 @@ pub impl<'a> Book for NumberPage<'a> as NumberBook {
     }
 
     fn put(&mut self, number: u16) -> bool {
-        let held = self.held();
-        if held == self.capacity() {
-            return false;
-        }
-        self.memory[held] = number;
-        self.used = held + 1;
-        true
+        self.write(number)
     }
 }

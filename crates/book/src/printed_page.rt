@@ -1,6 +1,8 @@
 ghost use Rattle.book.specs.Decimals.{sixBytes};
 ghost use Rattle.book.specs.PrintedLaws.{printedLaws};
-ghost use Rattle.book.specs.PrintedPages.{AsPut, PrintedOpened, bytesOf, capacityOf, heldBy, printedFree, printedGrows, printedList};
+ghost use Rattle.book.specs.PrintedPages.{AsPut, PrintedOpened, PrintedWritten, bytesOf, capacityOf, heldBy, printedFree, printedGrows, printedList};
+ghost use Prim.Native.Nat.{_*_};
+ghost use lib.ListN.{length, take};
 ghost use mathlib.Core.Path.{_≡_};
 use super::book::Book;
 use super::number_page::PAGE_NUMBERS;
@@ -25,7 +27,7 @@ impl<'a> PrintedPage<'a> {
         ensures part { λ r. ⌜ now r ≡ bytesOf (now (self .entry)) ⌝ }
         ensures put { λ r. ⌜ AsPut (now r) (now (self .entry)) ⌝ }
     {
-        &self.memory[..6 * self.held()]
+        &self.memory[..self.end()]
     }
 
     fn capacity(&self) -> usize
@@ -35,9 +37,33 @@ impl<'a> PrintedPage<'a> {
     }
 
     fn held(&self) -> usize
-        ensures { λ r. ⌜ r ≡ heldBy (now (self .entry)) ⌝ }
+        ensures held { λ r. ⌜ r ≡ heldBy (now (self .entry)) ⌝ }
+        ensures listed { λ r. ⌜ r ≡ length (printedList (now (self .entry))) ⌝ }
     {
         self.used.min(self.capacity())
+    }
+
+    // The place of the byte behind the numbers held.
+    fn end(&self) -> usize
+        ensures end { λ r. ⌜ r ≡ 6 * heldBy (now (self .entry)) ⌝ }
+        ensures put { λ r. ⌜ AsPut (take r (now (now (self .entry) .memory))) (now (self .entry)) ⌝ }
+    {
+        6 * self.held()
+    }
+
+    // Prints the number behind those held, unless the page is full.
+    fn write(&mut self, number: u16) -> bool
+        ensures { λ r. ⌜ PrintedWritten (now (self .entry)) number r (now (self .exit)) ⌝ }
+    {
+        let held = self.held();
+        if held == self.capacity() {
+            return false;
+        }
+        let end = self.end();
+        self.memory[end..end + 6]
+            .copy_from_slice(&six_bytes(number));
+        self.used = held + 1;
+        true
     }
 }
 
@@ -73,14 +99,6 @@ pub impl<'a> Book for PrintedPage<'a> as PrintedBook {
     }
 
     fn put(&mut self, number: u16) -> bool {
-        let held = self.held();
-        if held == self.capacity() {
-            return false;
-        }
-        let place = 6 * held;
-        self.memory[place..place + 6]
-            .copy_from_slice(&six_bytes(number));
-        self.used = held + 1;
-        true
+        self.write(number)
     }
 }

@@ -5,7 +5,7 @@ use Prim.Native.Nat.{ℕ, _+_, _<_, _≤_}
 use lib.ListN.{length, take, length-take}
 use Rattle.std.proofs.shelf.Lists.{take-all, length-take-le}
 use Rattle.book.proofs.Putting.{entered-all, grows-more}
-use Rattle.book.proofs.entry.enter.Needs as need
+use Rattle.book.proofs.entry.put_all.Needs as need
 
 pub loop-number-again : need.loop-number-again
 loop-number-again g c =
@@ -15,7 +15,7 @@ loop-number-again g c =
     let i = c .loop-number .number-index in
     let h : i < length ns = c .loop-number-test .taken in
     let n : length (take i ns) ≡ i = length-take-le i ns (omega arith) in
-    let one : 1 ≤ book .free b = omega (arith, c .free .ensures, c .if-numbers-free .left, book .laws .adds _ b (take i ns) (c .loop-number .inv) .1) in
+    let one : 1 ≤ book .free b = omega (arith, c .pre, book .laws .adds _ b (take i ns) (c .loop-number .inv) .1) in
     let put = entered-all (book .list) (book .free) (book .grows) b (_ ∷ []) (c .put .result) (c .put .last .self) one (c .put .ensures) in
     grows-more (book .list) (book .free) (book .grows) (book .laws) _ b (c .put .last .self) ns i _ h refl (c .loop-number .inv) put
 
