@@ -11,3 +11,6 @@ pub use number_page::NumberPage;
 pub use number_page::PAGE_NUMBERS;
 pub use printed_page::PrintedBook;
 pub use printed_page::PrintedPage;
+
+#[cfg(test)]
+mod tests;
