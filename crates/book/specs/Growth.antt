@@ -1,4 +1,4 @@
--- Memory that grows keeps its length, may grow by nothing, and grows twice as it grows once by both lists.
+-- Memory that grows keeps its length; it may grow by nothing; and to grow twice is to grow once by both lists.
 use mathlib.Core.Path.{_≡_, refl, _∙_, ap, sym, subst}
 use mathlib.Core.List.{List, [], _∷_, _++_}
 use Prim.Native.Nat.{ℕ, _+_, _-_, _≤_}

@@ -11,6 +11,7 @@ use Rattle.book.specs.Overwriting.{overwritten, Grown}
 use Rattle.book.specs.Growth.{grown-length, grown-stays, grown-joins, take-overwritten}
 use Rattle.book.specs.NumberPages.{capacityOf, heldBy, numberList, numberFree, numberGrows}
 
+-- A page that grew by numbers holds them behind its own, and has so many fewer free.
 number-adds : (p q : NumberPage) (ns : List ℕ) → numberGrows p ns q → (numberList q ≡ numberList p ++ ns) × (numberFree p ≡ numberFree q + length ns)
 number-adds p q ns g =
     let m = now (p .memory) in
@@ -23,6 +24,7 @@ number-adds p q ns g =
       omega arith,
     )
 
+-- What holds of every book holds of a page of numbers.
 pub numberLaws : Laws numberList numberFree numberGrows
 numberLaws = record {
   bounded = λ p. simp length-take (omega arith);

@@ -13,6 +13,7 @@ use Rattle.book.specs.Growth.{grown-length, grown-stays, grown-joins, take-ove
 use Rattle.book.specs.ReadBack.{length-read, printed-joins, printed-spans, read-overwritten}
 use Rattle.book.specs.PrintedPages.{capacityOf, heldBy, printedList, printedFree, printedGrows, bytesOf}
 
+-- A page that grew by numbers shows them behind its own, and has so many fewer free.
 printed-adds : (p q : PrintedPage) (ns : List ℕ) → printedGrows p ns q → (printedList q ≡ printedList p ++ ns) × (printedFree p ≡ printedFree q + length ns)
 printed-adds p q ns g =
     let m = now (p .memory) in
@@ -25,6 +26,7 @@ printed-adds p q ns g =
       omega arith,
     )
 
+-- What holds of every book holds of a printed page.
 pub printedLaws : Laws printedList printedFree printedGrows
 printedLaws = record {
   bounded = λ p. simp length-read (omega arith);

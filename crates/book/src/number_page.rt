@@ -28,12 +28,14 @@ impl<'a> NumberPage<'a> {
         &self.memory[..self.held()]
     }
 
+    // How many numbers the memory takes in all.
     fn capacity(&self) -> usize
         ensures { λ r. ⌜ r ≡ capacityOf (now (self .entry)) ⌝ }
     {
         self.memory.len().min(PAGE_NUMBERS)
     }
 
+    // How many numbers the page holds.
     fn held(&self) -> usize
         ensures { λ r. ⌜ r ≡ heldBy (now (self .entry)) ⌝ }
     {

@@ -30,12 +30,14 @@ impl<'a> PrintedPage<'a> {
         &self.memory[..self.end()]
     }
 
+    // How many numbers the memory takes in all.
     fn capacity(&self) -> usize
         ensures { λ r. ⌜ r ≡ capacityOf (now (self .entry)) ⌝ }
     {
         (self.memory.len() / 6).min(PAGE_NUMBERS)
     }
 
+    // How many numbers the page holds.
     fn held(&self) -> usize
         ensures held { λ r. ⌜ r ≡ heldBy (now (self .entry)) ⌝ }
         ensures listed { λ r. ⌜ r ≡ length (printedList (now (self .entry))) ⌝ }
