@@ -34,6 +34,22 @@ pub enum Refusal {
         first: Action,
         second: Action,
     },
+    // the tables are blank
+    Blank,
+    // the designer is above 7
+    NoDesigner,
+    // the line is judged where an open one is asked for, or open where a judged one is
+    Status,
+    // the line has 256 words
+    FullLine,
+    // the word is not 1 to T
+    NoWord,
+    // the line would note a 769th rule
+    Reductions,
+    // the machine meets no action
+    NoAction,
+    // the book has fewer free than the entry is long
+    FullBook,
 }
 
 impl Refusal {
@@ -54,6 +70,14 @@ impl Refusal {
                 first: _,
                 second: _,
             } => 7,
+            Refusal::Blank => 8,
+            Refusal::NoDesigner => 9,
+            Refusal::Status => 10,
+            Refusal::FullLine => 11,
+            Refusal::NoWord => 12,
+            Refusal::Reductions => 13,
+            Refusal::NoAction => 14,
+            Refusal::FullBook => 15,
         }
     }
 }

@@ -1,0 +1,9 @@
+pub mod Books
+pub mod Decimals
+pub mod Growth
+pub mod NumberLaws
+pub mod NumberPages
+pub mod Overwriting
+pub mod PrintedLaws
+pub mod PrintedPages
+pub mod ReadBack
