@@ -14,7 +14,7 @@ pub struct OwnRule {
 
 impl OwnRule {
     // The rule with these codes; a ninth and later ones are left out.
-    pub fn new(left: u16, codes: &[u16]) -> OwnRule
+    pub(crate) fn new(left: u16, codes: &[u16]) -> OwnRule
         ensures left { λ r. ⌜ r .left ≡ left ⌝ }
         ensures right { λ r. ⌜ take (r .size) (r .codes) ≡ take 8 (now (codes .entry)) ⌝ }
     {

@@ -32,7 +32,7 @@ fn explain_place(rt: &LibcRuntime, text: &[u8], place: usize) -> io::Result<()> 
     )
 }
 
-pub fn explain(rt: &LibcRuntime, text: &[u8], refusal: Refusal) -> io::Result<()> {
+pub(crate) fn explain(rt: &LibcRuntime, text: &[u8], refusal: Refusal) -> io::Result<()> {
     match refusal {
         Refusal::Form { place } => explain_place(rt, text, place),
         Refusal::Limits => {

@@ -36,7 +36,7 @@ fn word_code(words: &Spellings<'_>, heads: &Spellings<'_>, word: &[u8]) -> u16
 
 impl Draft {
     // No rule yet.
-    pub fn new() -> Draft
+    pub(crate) fn new() -> Draft
         ensures { λ r. ⌜ drafted r ≡ blankDraft ⌝ }
     {
         Draft {
@@ -100,7 +100,7 @@ impl Draft {
     }
 
     // Takes all tokens of a text in; false where a right side has a ninth code or there is a 97th rule.
-    pub fn read(&mut self, text: &[u8], words: &Spellings<'_>, heads: &Spellings<'_>) -> bool
+    pub(crate) fn read(&mut self, text: &[u8], words: &Spellings<'_>, heads: &Spellings<'_>) -> bool
         ensures { λ r. ⌜ ((ts : List Placed) → Laid 0 ts (now (text .entry)) → Read r (spelled (now (words .entry))) (spelled (now (heads .entry))) (drafted (now (self .exit))) (tokens ts)) ⌝ }
     {
         *self = Draft::new();

@@ -103,7 +103,7 @@ fn step(stage: Stage, byte: u8) -> Option<Stage>
 }
 
 // The place of the first byte that cannot stand where it does, the text's length where it ends early, or none where it is well formed.
-pub fn misplaced(text: &[u8]) -> Option<usize>
+pub(crate) fn misplaced(text: &[u8]) -> Option<usize>
     ensures { λ r. ⌜ Cases r (WellFormed (now (text .entry))) (λ p. Misplaced (now (text .entry)) p) ⌝ }
 {
     let mut stage = Stage::Between;

@@ -90,7 +90,7 @@ fn closing(text: &[u8], from: usize) -> usize
 }
 
 // The first token of the text from `from` on, none at its end; of a text that holds other things, whatever looks like one.
-pub fn next_token<'a>(text: &'a [u8], from: usize) -> Option<Found<'a>>
+pub(crate) fn next_token<'a>(text: &'a [u8], from: usize) -> Option<Found<'a>>
     requires { ⌜ from ≤ length (now text) ⌝ }
     ensures starts { λ r. ⌜ ((ts : List Placed) → Laid from ts (drop from (now (text .entry))) → Starts (now (text .entry)) r ts) ⌝ }
     ensures onward { λ r. ⌜ Cases r (Unit {0}) (λ f. (from < f .after) × (f .after ≤ length (now (text .entry)))) ⌝ }

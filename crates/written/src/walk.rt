@@ -96,7 +96,7 @@ fn place_of(token: Token<'_>) -> usize
 }
 
 // The place of the first name that heads nothing.
-pub fn first_headless(text: &[u8]) -> Option<usize>
+pub(crate) fn first_headless(text: &[u8]) -> Option<usize>
     ensures { λ r. ⌜ ((ts : List Placed) → Laid 0 ts (now (text .entry)) → r ≡ firstHeadless (picked true true (tokens ts)) ts) ⌝ }
 {
     let mut at = 0;
@@ -120,7 +120,7 @@ fn note_token<'a>(out: &mut Spellings<'a>, heads: bool, between: bool, token: To
 }
 
 // Collects all heads, or all words, by first appearance; false where there are more than 63.
-pub fn collect<'a>(text: &'a [u8], heads: bool, out: &mut Spellings<'a>) -> bool
+pub(crate) fn collect<'a>(text: &'a [u8], heads: bool, out: &mut Spellings<'a>) -> bool
     ensures { λ r. ⌜ ((ts : List Placed) → Laid 0 ts (now (text .entry)) → Collected r (spelled (now (out .exit))) (distinct (picked heads true (tokens ts)))) ⌝ }
 {
     *out = Spellings::new();

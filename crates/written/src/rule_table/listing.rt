@@ -11,7 +11,7 @@ use crate::short_rule::ShortRule;
 
 impl RuleTable {
     // No rule yet.
-    pub fn new() -> RuleTable
+    pub(crate) fn new() -> RuleTable
         ensures { λ r. ⌜ ruleList r ≡ [] ⌝ }
     {
         RuleTable {
@@ -21,7 +21,7 @@ impl RuleTable {
     }
 
     // How many rules there are.
-    pub fn count(&self) -> u16
+    pub(crate) fn count(&self) -> u16
         ensures value { λ r. ⌜ r ≡ length (ruleList (now (self .entry))) ⌝ }
         ensures few { λ r. ⌜ r ≤ 96 ⌝ }
     {
@@ -29,7 +29,7 @@ impl RuleTable {
     }
 
     // The rule at a place, from 0.
-    pub fn rule(&self, place: usize) -> Option<ShortRule>
+    pub(crate) fn rule(&self, place: usize) -> Option<ShortRule>
         ensures { λ r. ⌜ shortRuleOf r ≡ nth (ruleList (now (self .entry))) place ⌝ }
     {
         if place < self.count {
@@ -39,7 +39,7 @@ impl RuleTable {
     }
 
     // One more rule at the end; false, and nothing changed, where it would be the 97th.
-    pub fn push(&mut self, rule: ShortRule) -> bool
+    pub(crate) fn push(&mut self, rule: ShortRule) -> bool
         ensures { λ r. ⌜ Listed r (ruleList (now (self .entry))) (shortRule rule) (ruleList (now (self .exit))) ⌝ }
     {
         let count = self.count;

@@ -9,7 +9,7 @@ use super::ShortRule;
 
 impl ShortRule {
     // A rule with nothing on its right.
-    pub fn new(left: u16) -> ShortRule
+    pub(crate) fn new(left: u16) -> ShortRule
         ensures { λ r. ⌜ shortRule r ≡ record { left = left; right = [] } ⌝ }
     {
         ShortRule {
@@ -20,21 +20,21 @@ impl ShortRule {
     }
 
     // Gives the rule another left side.
-    pub fn set_left(&mut self, left: u16)
+    pub(crate) fn set_left(&mut self, left: u16)
         ensures { λ _. ⌜ shortRule (now (self .exit)) ≡ record { left = left; right = shortRule (now (self .entry)) .right } ⌝ }
     {
         self.left = left;
     }
 
     // The left side.
-    pub fn left(&self) -> u16
+    pub(crate) fn left(&self) -> u16
         ensures { λ r. ⌜ r ≡ shortRule (now (self .entry)) .left ⌝ }
     {
         self.left
     }
 
     // The number of codes on the right.
-    pub fn length(&self) -> u16
+    pub(crate) fn length(&self) -> u16
         ensures value { λ r. ⌜ r ≡ length (shortRule (now (self .entry)) .right) ⌝ }
         ensures few { λ r. ⌜ r ≤ 8 ⌝ }
     {
@@ -42,7 +42,7 @@ impl ShortRule {
     }
 
     // The code at a place of the right side, from 0.
-    pub fn code(&self, place: u16) -> Option<u16>
+    pub(crate) fn code(&self, place: u16) -> Option<u16>
         ensures { λ r. ⌜ r ≡ nth (shortRule (now (self .entry)) .right) place ⌝ }
     {
         let at = place as usize;
@@ -53,7 +53,7 @@ impl ShortRule {
     }
 
     // One more code at the end; false, and nothing changed, where it would be the ninth.
-    pub fn push(&mut self, code: u16) -> bool
+    pub(crate) fn push(&mut self, code: u16) -> bool
         ensures { λ r. ⌜ Filled r (shortRule (now (self .entry))) code (shortRule (now (self .exit))) ⌝ }
     {
         let size = self.size;

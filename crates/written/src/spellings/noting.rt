@@ -10,7 +10,7 @@ ghost use mathlib.Core.Path.{_≡_};
 use super::Spellings;
 
 // Whether two spellings are alike.
-pub fn same_bytes(a: &[u8], b: &[u8]) -> bool
+pub(crate) fn same_bytes(a: &[u8], b: &[u8]) -> bool
     ensures { λ r. ⌜ r ≡ sameBytes (now (a .entry)) (now (b .entry)) ⌝ }
 {
     a == b
@@ -20,7 +20,7 @@ static NOTHING: [u8; 0] = [];
 
 impl<'a> Spellings<'a> {
     // No spelling yet.
-    pub fn new() -> Spellings<'a>
+    pub(crate) fn new() -> Spellings<'a>
         ensures { λ r. ⌜ spelled r ≡ [] ⌝ }
     {
         Spellings {
@@ -30,7 +30,7 @@ impl<'a> Spellings<'a> {
     }
 
     // How many spellings there are.
-    pub fn count(&self) -> usize
+    pub(crate) fn count(&self) -> usize
         ensures value { λ r. ⌜ r ≡ length (spelled (now (self .entry))) ⌝ }
         ensures few { λ r. ⌜ r ≤ 63 ⌝ }
     {
@@ -38,7 +38,7 @@ impl<'a> Spellings<'a> {
     }
 
     // How many stand before the spelling; all of them, if it is not there.
-    pub fn find(&self, spelling: &[u8]) -> usize
+    pub(crate) fn find(&self, spelling: &[u8]) -> usize
         ensures value { λ r. ⌜ r ≡ indexOf (now (spelling .entry)) (spelled (now (self .entry))) ⌝ }
         ensures few { λ r. ⌜ r ≤ 63 ⌝ }
     {
@@ -52,7 +52,7 @@ impl<'a> Spellings<'a> {
     }
 
     // The spelling with this number, from 0.
-    pub fn spelling(&self, i: usize) -> Option<&'a [u8]>
+    pub(crate) fn spelling(&self, i: usize) -> Option<&'a [u8]>
         ensures { λ r. ⌜ bytesOf r ≡ nth (spelled (now (self .entry))) i ⌝ }
     {
         if i < self.count {
@@ -62,7 +62,7 @@ impl<'a> Spellings<'a> {
     }
 
     // One more spelling, unless it is there already; false where it would be the 64th.
-    pub fn note(&mut self, spelling: &'a [u8]) -> bool
+    pub(crate) fn note(&mut self, spelling: &'a [u8]) -> bool
         ensures { λ r. ⌜ Noted r (spelled (now (self .entry))) (now (spelling .entry)) (spelled (now (self .exit))) ⌝ }
     {
         let count = self.count;
