@@ -5,6 +5,7 @@ mod packed;
 mod packed_tests;
 mod packing;
 mod rule_sheet;
+mod standing;
 mod supplement;
 #[cfg(test)]
 mod supplement_tests;
