@@ -10,11 +10,11 @@ use Rattle.std.specs.declared.option.Option.{Option}
 use Rattle.std.specs.declared.option.Option.the-variants.{Some}
 use Rattle.std.proofs.shelf.Lists.{length-set, getD-append-left}
 use Rattle.grammar.specs.Grammar.{Grammar}
-use Rattle.sheet.specs.Readings.{codeTold, leftOf, leftTold, lengthTold}
+use Rattle.sheet.specs.Readings.{codeTold, leftTold, lengthTold}
 use Rattle.sheet.specs.Packing.{BodyAt, ends, packed, unpacked}
 use Rattle.sheet.specs.Packs.{Front, Narrow, NarrowEnds, Packs, sizeAt}
 use Rattle.sheet.proofs.Fronts.{front-all, front-more, front-on}
-use Rattle.sheet.proofs.Bodies.{body-at, code-told, length-told}
+use Rattle.sheet.proofs.Bodies.{body-at}
 use Rattle.sheet.proofs.Packings.{packed-full, packed-lies, packed-listed, packed-means}
 
 module _ (G : Grammar) (i : ℕ) (within : i < length (G .rules)) where
@@ -25,13 +25,13 @@ module _ (G : Grammar) (i : ℕ) (within : i < length (G .rules)) where
       subst (BodyAt (packed G) (i + 1)) place (body-at (packed G) (packed-lies G) (i + 1) (omega arith) (omega arith))
 
   length-there : lengthTold G (i + 1) ≡ Some (getD (packed G) (ends (packed G) i + 1) 0)
-  length-there = sym (length-told (packed G) (i + 1) (ends (packed G) i) body-of ∙ ap (λ H. lengthTold H (i + 1)) (packed-means G))
+  length-there = ap (λ H. lengthTold H (i + 1)) (sym (packed-means G)) ∙ body-of .size
 
   left-there : leftTold G (i + 1) ≡ Some (getD (packed G) (ends (packed G) i) 0)
-  left-there = ap (λ H. leftTold H (i + 1)) (sym (packed-means G)) ∙ ap leftOf (body-of .reads)
+  left-there = ap (λ H. leftTold H (i + 1)) (sym (packed-means G)) ∙ body-of .left
 
   code-there : (p : ℕ) → p < getD (packed G) (ends (packed G) i + 1) 0 → codeTold G (i + 1) p ≡ Some (getD (packed G) (ends (packed G) i + 2 + p) 0)
-  code-there p h = sym (code-told (packed G) (i + 1) (ends (packed G) i) body-of p h ∙ ap (λ H. codeTold H (i + 1) p) (packed-means G))
+  code-there p h = ap (λ H. codeTold H (i + 1) p) (sym (packed-means G)) ∙ body-of .code p h
 
   -- the left side, as the sheet's answer gives it
   pub left-value : (o : Option ℕ) (v : ℕ) → o ≡ leftTold G (i + 1) → v ≡ valueOr o 0 → v ≡ getD (packed G) (ends (packed G) i) 0

@@ -13,13 +13,13 @@ use Rattle.sheet.specs.Packing.{Lies, bodies, body, contents, ends, packed, ru
 use Rattle.sheet.proofs.Bodies.{codes-length, rules-length}
 
 -- one more rule lies in its layout
-pub lies-more : (ns : List ℕ) (r at : ℕ) → at ≡ ends ns r → getD ns (3 + r) 0 ≡ at → at + 2 + getD ns (at + 1) 0 ≤ length ns → ((j : ℕ) → j < r → Lies ns j)
-    → (at + 2 + getD ns (at + 1) 0 ≡ ends ns (r + 1)) × (at + 2 + getD ns (at + 1) 0 ≤ length ns) × ((j : ℕ) → j < r + 1 → Lies ns j)
-lies-more ns r at is there whole before =
-    let same : getD ns (at + 1) 0 ≡ getD ns (ends ns r + 1) 0 = ap (λ x. getD ns (x + 1) 0) is in
+pub lies-more : (ns : List ℕ) (r at end : ℕ) → (at ≡ ends ns r) × (at ≤ length ns) × ((j : ℕ) → j < r → Lies ns j) → (getD ns (3 + r) 0 ≡ at) × (end ≡ at + 2 + getD ns (at + 1) 0) × (end ≤ length ns)
+    → (end ≡ ends ns (r + 1)) × (end ≤ length ns) × ((j : ℕ) → j < r + 1 → Lies ns j)
+lies-more ns r at end inv body =
+    let same : getD ns (at + 1) 0 ≡ getD ns (ends ns r + 1) 0 = ap (λ x. getD ns (x + 1) 0) (inv .0) in
     let one : r + 1 ≡ suc r = omega arith in
-    let end : at + 2 + getD ns (at + 1) 0 ≡ ends ns r + 2 + getD ns (ends ns r + 1) 0 = omega arith in
-    (end ∙ ap (ends ns) (sym one), whole, below-more (Lies ns) r before (there ∙ is, omega arith))
+    let far : end ≡ ends ns r + 2 + getD ns (ends ns r + 1) 0 = omega (arith, inv .0, body .1) in
+    (far ∙ ap (ends ns) (sym one), body .2, below-more (Lies ns) r (inv .2) (body .0 ∙ inv .0, omega (arith, body .2)))
 
 -- a body that is all there, and what lies behind it
 body-split : (ns : List ℕ) (at : ℕ) → at + 2 + getD ns (at + 1) 0 ≤ length ns → drop at ns ≡ body (ruleFrom ns at) ++ drop (at + 2 + getD ns (at + 1) 0) ns

@@ -1,18 +1,20 @@
 -- The rules of a supplement, by their numbers, and how one more is added.
 use mathlib.Core.Path.{_≡_, refl, sym, ap, ap₂, _∙_}
 use mathlib.Core.List.{List, [], _∷_, _++_, map}
-use mathlib.Core.Logic.{_⊎_, inl, inr}
 use Prim.Native.Nat.{ℕ, zero, suc, _+_, _-_, _<_, _≤_, min}
+use native.Mathlib.Decide.{decLe}
 use native.Mathlib.Omega.{arith}
 use lib.ListN.{length, getD, take, set}
 use Rattle.std.specs.Finite.{nth}
 use Rattle.std.specs.declared.option.Option.the-variants.{Some, None}
-use Rattle.std.proofs.shelf.Lists.{append-assoc, append-nil, getD-map, getD-take, length-append, length-map, length-set, length-take, length-take-le, map-append, take-all, take-more-set}
+use Rattle.std.proofs.shelf.Lists.{append-assoc, getD-map, getD-take, length-append, length-map, length-take, length-take-le, map-set, take-more-set}
 use Rattle.std.proofs.shelf.Maps.{nth-getD, nth-past}
 use Rattle.grammar.specs.Grammar.{Grammar, Rule}
-use Rattle.sheet.specs.Readings.{codeOf, codeTold, lengthOf, lengthTold, ruleTold}
-use Rattle.sheet.specs.Supplements.{OwnAt, ruleOf, supplemented, withRule}
+use Rattle.sheet.specs.Readings.{ruleTold}
+use Rattle.sheet.specs.Supplements.{Stands, StandsBy, ruleOf, supplemented, withRule}
 use Rattle.sheet.specs.declared.own_rule.OwnRule.{OwnRule}
+use Rattle.sheet.specs.declared.standing.Standing.{Standing}
+use Rattle.sheet.specs.declared.standing.Standing.the-variants.{Below, Outside, Own}
 
 nth-left : {X : Type 0} (xs ys : List X) (k : ℕ) → k < length xs → nth (xs ++ ys) k ≡ nth xs k
 nth-left [] ys k h = absurd (omega arith)
@@ -24,44 +26,46 @@ nth-right [] ys k j e = let same : k ≡ j = omega arith in ap (nth ys) same
 nth-right (x ∷ xs) ys zero j e = absurd (omega arith)
 nth-right (x ∷ xs) ys (suc k) j e = nth-right xs ys k j (omega arith)
 
-abbrev withRules : Grammar → List Rule → Grammar
-withRules G rs = record { terminals = G .terminals; nonterminals = G .nonterminals; rules = rs }
-
--- with no rule of its own, a sheet means what the sheet below means
-pub none-added : (G : Grammar) (own : List OwnRule) → supplemented G 0 own ≡ G
-none-added G own =
-    ap (λ rs. withRules G (G .rules ++ rs)) (take-all (96 - length (G .rules)) [] (omega arith)) ∙ ap (withRules G) (append-nil (G .rules))
+-- a change below the cut comes through it
+take-set-below : {X : Type 0} (m : ℕ) (xs : List X) (i : ℕ) (x : X) → i < m → take m (set xs i x) ≡ set (take m xs) i x
+take-set-below zero xs i x h = absurd (omega arith)
+take-set-below (suc m) [] i x h = refl
+take-set-below (suc m) (y ∷ ys) zero x h = refl
+take-set-below (suc m) (y ∷ ys) (suc i) x h = ap (λ t. y ∷ t) (take-set-below m ys i x (omega arith))
 
 module _ (G : Grammar) (n : ℕ) (own : List OwnRule) (fits : n ≤ length own) where
-  mine-length : length (map ruleOf (take n own)) ≡ n
-  mine-length = length-map (take n own) ruleOf ∙ length-take-le n own fits
+  mine-length : length (take n (take (96 - length (G .rules)) (map ruleOf own))) ≡ min n (96 - length (G .rules))
+  mine-length =
+      let room = length-take (96 - length (G .rules)) (map ruleOf own) in
+      let table = length-map own ruleOf in
+      length-take n (take (96 - length (G .rules)) (map ruleOf own)) ∙ omega arith
 
-  told-length : length (take (96 - length (G .rules)) (map ruleOf (take n own))) ≡ min (96 - length (G .rules)) n
-  told-length = length-take (96 - length (G .rules)) (map ruleOf (take n own)) ∙ ap (min (96 - length (G .rules))) mine-length
+  pub rules-length : length (supplemented G n own .rules) ≡ length (G .rules) + min n (96 - length (G .rules))
+  rules-length = length-append (G .rules) (take n (take (96 - length (G .rules)) (map ruleOf own))) ∙ ap (λ k. length (G .rules) + k) mine-length
 
-  pub rules-length : length (supplemented G n own .rules) ≡ length (G .rules) + min (96 - length (G .rules)) n
-  rules-length = length-append (G .rules) (take (96 - length (G .rules)) (map ruleOf (take n own))) ∙ ap (λ k. length (G .rules) + k) told-length
-
-  pub rule-below : (rule : ℕ) → rule ≤ length (G .rules) → ruleTold (supplemented G n own) rule ≡ ruleTold G rule
+  rule-below : (rule : ℕ) → rule ≤ length (G .rules) → ruleTold (supplemented G n own) rule ≡ ruleTold G rule
   rule-below zero h = refl
-  rule-below (suc k) h = nth-left (G .rules) (take (96 - length (G .rules)) (map ruleOf (take n own))) k (omega arith)
+  rule-below (suc k) h = nth-left (G .rules) (take n (take (96 - length (G .rules)) (map ruleOf own))) k (omega arith)
 
-  rule-mine : (k i : ℕ) (d : OwnRule) → length (G .rules) + i ≡ k → k < 96 → i < n → nth (supplemented G n own .rules) k ≡ Some (ruleOf (getD own i d))
-  rule-mine k i d e low held =
-      let long = told-length in
-      let mine = mine-length in
-      let first = length-take-le n own fits in
-      nth-right (G .rules) (take (96 - length (G .rules)) (map ruleOf (take n own))) k i e
-      ∙ nth-getD (take (96 - length (G .rules)) (map ruleOf (take n own))) i (ruleOf d) (omega arith)
-      ∙ ap Some (getD-take (96 - length (G .rules)) (map ruleOf (take n own)) i (ruleOf d) (omega arith) ∙ getD-map ruleOf (take n own) i d (ruleOf d) (omega arith) ∙ ap ruleOf (getD-take n own i d held))
+  rule-own : (rule i : ℕ) (d : OwnRule) → length (G .rules) + i + 1 ≡ rule → rule ≤ 96 → i < n → ruleTold (supplemented G n own) rule ≡ Some (ruleOf (getD own i d))
+  rule-own zero i d e low held = absurd (omega arith)
+  rule-own (suc k) i d e low held =
+      let long = mine-length in
+      nth-right (G .rules) (take n (take (96 - length (G .rules)) (map ruleOf own))) k i (omega arith)
+      ∙ nth-getD (take n (take (96 - length (G .rules)) (map ruleOf own))) i (ruleOf d) (omega arith)
+      ∙ ap Some (getD-take n (take (96 - length (G .rules)) (map ruleOf own)) i (ruleOf d) held ∙ getD-take (96 - length (G .rules)) (map ruleOf own) i (ruleOf d) (omega arith) ∙ getD-map ruleOf own i d (ruleOf d) (omega arith))
 
-  pub rule-own : (rule i : ℕ) → length (G .rules) + i + 1 ≡ rule → rule ≤ 96 → i < n → OwnAt G n own rule i
-  rule-own zero i e low held = absurd (omega arith)
-  rule-own (suc k) i e low held = record { held = held; reads = λ d. rule-mine k i d (omega arith) (omega arith) held }
-
-  pub rule-none : (rule : ℕ) → length (G .rules) < rule → (96 < rule) ⊎ (length (G .rules) + n < rule) → ruleTold (supplemented G n own) rule ≡ None
+  rule-none : (rule : ℕ) → length (G .rules) < rule → (rule ≤ 96 → length (G .rules) + n < rule) → ruleTold (supplemented G n own) rule ≡ None
   rule-none zero h far = refl
-  rule-none (suc k) h far = let long = rules-length in nth-past (supplemented G n own .rules) k (omega arith)
+  rule-none (suc k) h far = let long = rules-length in nth-past (supplemented G n own .rules) k (elim (decLe (suc k) 96) [ yes low ↦ let past = far low in omega arith | no high ↦ omega arith ])
+
+  pub stands-by : (rule : ℕ) (s : Standing) → StandsBy rule (length (G .rules)) n s → Stands G n own rule s
+  stands-by rule Below h = rule-below rule h
+  stands-by rule (Own i) h = (h .2, λ d. rule-own rule i d (h .0) (h .1) (h .2))
+  stands-by rule Outside h = rule-none rule (h .0) (h .1)
+
+abbrev withRules : Grammar → List Rule → Grammar
+withRules G rs = record { terminals = G .terminals; nonterminals = G .nonterminals; rules = rs }
 
 abbrev makeRule : ℕ → List ℕ → Rule
 makeRule left codes = record { left = left; right = codes }
@@ -72,35 +76,23 @@ pub one-added : (G : Grammar) (n : ℕ) (own : List OwnRule) (o : OwnRule) (left
 one-added G n own o left codes fits low lefts rights =
     let room = 96 - length (G .rules) in
     let count = rules-length G n own (omega arith) in
-    let mine = length-map (take n own) ruleOf ∙ length-take-le n own (omega arith) in
-    let long = length-set own n o in
-    let more : length (map ruleOf (take (n + 1) (set own n o))) ≡ n + 1 = length-map (take (n + 1) (set own n o)) ruleOf ∙ length-take-le (n + 1) (set own n o) (omega arith) in
+    let table : length (map ruleOf own) ≡ length own = length-map own ruleOf in
+    let less = length-take room (map ruleOf own) in
     let rule : ruleOf o ≡ makeRule left codes = ap₂ makeRule lefts rights in
     ap (λ rs. withRules G (G .rules ++ rs))
-    (take-all room (map ruleOf (take (n + 1) (set own n o))) (omega arith)
-    ∙ ap (map ruleOf) (take-more-set own n o fits)
-    ∙ map-append ruleOf (take n own) (o ∷ [])
-    ∙ ap₂ (λ rs r. rs ++ r ∷ []) (sym (take-all room (map ruleOf (take n own)) (omega arith))) rule)
-    ∙ ap (withRules G) (sym (append-assoc (G .rules) (take room (map ruleOf (take n own))) (makeRule left codes ∷ [])))
+    (ap (λ rs. take (n + 1) (take room rs)) (map-set ruleOf own n o)
+    ∙ ap (take (n + 1)) (take-set-below room (map ruleOf own) n (ruleOf o) (omega arith))
+    ∙ take-more-set (take room (map ruleOf own)) n (ruleOf o) (omega arith)
+    ∙ ap (λ r. take n (take room (map ruleOf own)) ++ r ∷ []) rule)
+    ∙ ap (withRules G) (sym (append-assoc (G .rules) (take n (take room (map ruleOf own))) (makeRule left codes ∷ [])))
 
--- the codes of a rule of its own
+-- the code at a place of a rule of its own
 module _ (o : OwnRule) where
-  size-is : length (ruleOf o .right) ≡ o .size
+  size-is : length (take (o .size) (o .codes)) ≡ o .size
   size-is = length-take-le (o .size) (o .codes) (omega (arith, o .short, o .eight))
 
-  code-is : (p : ℕ) → p < o .size → nth (ruleOf o .right) p ≡ Some (getD (o .codes) p 0)
-  code-is p h = let long = size-is in nth-getD (ruleOf o .right) p 0 (omega arith) ∙ ap Some (getD-take (o .size) (o .codes) p 0 h)
+  pub code-is : (p : ℕ) → p < o .size → Some (getD (o .codes) p 0) ≡ nth (take (o .size) (o .codes)) p
+  code-is p h = let long = size-is in sym (nth-getD (take (o .size) (o .codes)) p 0 (omega arith) ∙ ap Some (getD-take (o .size) (o .codes) p 0 h))
 
-  no-code : (p : ℕ) → o .size ≤ p → nth (ruleOf o .right) p ≡ None
-  no-code p h = let long = size-is in nth-past (ruleOf o .right) p (omega arith)
-
--- what is told of a rule of its own, from the inner table
-module _ (G : Grammar) (n : ℕ) (own : List OwnRule) (rule i : ℕ) (at : OwnAt G n own rule i) (d : OwnRule) where
-  pub length-told : Some (getD own i d .size) ≡ lengthTold (supplemented G n own) rule
-  length-told = sym (ap lengthOf (at .reads d) ∙ ap Some (size-is (getD own i d)))
-
-  pub code-told : (p : ℕ) → p < getD own i d .size → Some (getD (getD own i d .codes) p 0) ≡ codeTold (supplemented G n own) rule p
-  code-told p h = sym (ap (λ o. codeOf o p) (at .reads d) ∙ code-is (getD own i d) p h)
-
-  pub no-code-told : (p : ℕ) → getD own i d .size ≤ p → None ≡ codeTold (supplemented G n own) rule p
-  no-code-told p h = sym (ap (λ o. codeOf o p) (at .reads d) ∙ no-code (getD own i d) p h)
+  pub no-code : (p : ℕ) → o .size ≤ p → None ≡ nth (take (o .size) (o .codes)) p
+  no-code p h = let long = size-is in sym (nth-past (take (o .size) (o .codes)) p (omega arith))

@@ -3,6 +3,7 @@ mod own_rule;
 mod packed;
 mod packing;
 mod rule_sheet;
+mod standing;
 mod supplement;
 
 pub use packed::PackedRuleSheet;

@@ -1,4 +1,5 @@
 ghost use Prim.Native.Nat.{_≤_};
+ghost use Rattle.std.specs.Finite.{nth};
 ghost use lib.ListN.{length, take};
 ghost use mathlib.Core.Path.{_≡_};
 
@@ -28,5 +29,14 @@ impl OwnRule {
             size: size as u16,
             codes: held,
         }
+    }
+    // The code at a place, from 0.
+    pub(super) fn code(&self, place: u16) -> Option<u16>
+        ensures { λ r. ⌜ r ≡ nth (take (now (self .entry) .size) (now (self .entry) .codes)) place ⌝ }
+    {
+        if place >= self.size {
+            return None;
+        }
+        Some(self.codes[place as usize])
     }
 }

@@ -15,12 +15,22 @@ pub fn pack<S: RuleSheet>(sheet: &S, out: &mut [u16]) -> Option<usize>
     if out.len() < size {
         return None;
     }
+    put(sheet, size, out);
+    Some(size)
+}
+
+// Writes the packing, of this length, in front.
+fn put<S: RuleSheet>(sheet: &S, size: usize, out: &mut [u16])
+    requires sized { ⌜ size ≡ length (packed (S·RuleSheet .meaning (now sheet))) ⌝ }
+    requires room { ⌜ size ≤ length (now out) ⌝ }
+    requires narrow { ⌜ NarrowEnds (S·RuleSheet .meaning (now sheet)) ⌝ }
+    ensures { λ _. ⌜ Packs (S·RuleSheet .meaning (now (sheet .entry))) (now (out .entry)) (now (out .exit)) size ⌝ }
+{
     out[0] = sheet.terminals();
     out[1] = sheet.nonterminals();
     out[2] = sheet.rules();
     put_contents(sheet, out);
     put_bodies(sheet, out);
-    Some(size)
 }
 
 // How long the packing is, if each place has at most 16 bits.

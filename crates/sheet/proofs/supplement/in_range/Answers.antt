@@ -1,13 +1,15 @@
-use mathlib.Core.Logic.{inl, inr}
+use mathlib.Core.Path.{refl}
 use native.Mathlib.Omega.{arith}
+use Rattle.std.proofs.shelf.Ways.{not-from-decides}
 use Rattle.sheet.proofs.Ranges.{code-out, codes-in}
 use Rattle.sheet.proofs.supplement.in_range.Needs as need
-use Rattle.sheet.proofs.supplement.in_range.Needs.{then-code-eq0·by·then-code-eq0, then-code-eq0·by·else-code-eq0·then-code-last}
 
-pub returns-then-code-eq0 : need.returns-then-code-eq0
-returns-then-code-eq0 g c =
+pub returns-then-not-is-code : need.returns-then-not-is-code
+returns-then-not-is-code g c =
     code-out (g .S·RuleSheet .meaning (c .args .sheet .now)) (c .args .left) (c .args .codes .now) (c .loop-code .code-index) (omega arith)
-    (elim (c .then-code-eq0 .came) [ then-code-eq0·by·then-code-eq0 w ↦ inl (omega (arith, w .if-code-eq0 .taken)) | then-code-eq0·by·else-code-eq0·then-code-last w ↦ inr (omega (arith, w .if-code-last .taken)) ])
+    (λ code. not-from-decides (c .is-code .result) (c .is-code .ensures) (c .if-not-is-code .taken) (code .0, omega (arith, code .1)))
 
 pub returns : need.returns
-returns g c = codes-in (g .S·RuleSheet .meaning (c .args .sheet .now)) (c .args .left) (c .args .codes .now) (omega arith) (omega arith) (λ k h. c .loop-code .inv k (omega arith))
+returns g c =
+    let left = c .if-not-is-nonterminal .ensures tt .0 refl in
+    codes-in (g .S·RuleSheet .meaning (c .args .sheet .now)) (c .args .left) (c .args .codes .now) (omega (arith, left .0)) (omega (arith, left .1)) (λ k h. c .loop-code .inv k (omega arith))
