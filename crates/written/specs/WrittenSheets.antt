@@ -47,6 +47,17 @@ abbrev pub Opened : List ℕ → Result (Unit {0}) Refusal → Grammar → List 
 Opened text (Ok x) G words heads = (ss : List Statement) × Says text ss × (G ≡ grammarOf ss) × (words ≡ terminalsOf ss) × (heads ≡ nonterminalsOf ss)
 Opened text (Err e) G words heads = Refused text e × (G ≡ nothing) × (words ≡ []) × (heads ≡ [])
 
+-- Two answers tell the same: done both, or refused both with the same number and place.
+abbrev pub SameAnswer : Result (Unit {0}) Refusal → Result (Unit {0}) Refusal → Type 0
+SameAnswer (Ok x) (Ok y) = Unit {0}
+SameAnswer (Ok x) (Err f) = ⊥
+SameAnswer (Err e) (Ok y) = ⊥
+SameAnswer (Err e) (Err f) = told e ≡ told f
+
+-- A text leaves one answer, one grammar and one list of spellings each of words and heads.
+abbrev pub OneOpening : Type 0
+OneOpening = (text : List ℕ) (x y : Result (Unit {0}) Refusal) (G H : Grammar) (ws vs hs ks : List (List ℕ)) → Opened text x G ws hs → Opened text y H vs ks → SameAnswer x y × (G ≡ H) × (ws ≡ vs) × (hs ≡ ks)
+
 -- The rules of the statements are in, or they are outside the limits.
 abbrev pub Filled : Bool → Grammar → List (List ℕ) → List (List ℕ) → List Statement → Type 0
 Filled true G words heads ss = Within (grammarOf ss) × (G ≡ grammarOf ss) × (words ≡ terminalsOf ss) × (heads ≡ nonterminalsOf ss)

@@ -3,7 +3,7 @@ ghost use Rattle.grammar.specs.Grammar.{nothing};
 ghost use Rattle.written.specs.Spelled.{bytesOf, spelled};
 ghost use Rattle.written.specs.Statements.{Statement, Written};
 ghost use Rattle.written.specs.Tokens.{Placed};
-ghost use Rattle.written.specs.WrittenSheets.{Filled, Opened, spellingTold, wordCodeTold, writtenGrammar};
+ghost use Rattle.written.specs.WrittenSheets.{Filled, OneOpening, Opened, spellingTold, wordCodeTold, writtenGrammar};
 ghost use Prim.Native.Nat.{ℕ};
 ghost use mathlib.Core.List.{List, []};
 ghost use mathlib.Core.Path.{_≡_};
@@ -154,4 +154,12 @@ pub impl<'a> RuleSheet for WrittenSheet<'a> as WrittenRuleSheet {
             None => None,
         }
     }
+}
+
+// A theorem: what an opening promises leaves one answer only.
+pub fn one_opening() -> u8
+    ensures theorem { λ _. ⌜ OneOpening ⌝ }
+    ensures answer { λ r. ⌜ r ≡ 0 ⌝ }
+{
+    0
 }
