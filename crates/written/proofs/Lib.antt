@@ -21,4 +21,3 @@ pub mod UniqueFault
 pub mod OneOpening
 pub mod FilledSheets
 pub mod JoinedLists
-pub mod ToldSpellings
