@@ -79,14 +79,5 @@ module _ (text : List ℕ) (ts : List Placed) (ss : List Statement) (w : Written
         let within : Within G = record { some-terminal = w1; terminals = w63; some-nonterminal = h1; nonterminals = h24; some-rule = r1; rules = r96; right-sides = short-rights G short } in
         (subst Within same within, same, w-is, h-is)
 
-    pub few-words : length words ≡ 0 → Within (grammarOf ss) → ⊥
-    few-words e i = omega (arith, ap length w-is, i .some-terminal)
-
-    pub few-heads : length heads ≡ 0 → Within (grammarOf ss) → ⊥
-    few-heads e i = omega (arith, ap length h-is, i .some-nonterminal)
-
-    pub many-heads : 24 < length heads → Within (grammarOf ss) → ⊥
-    many-heads e i = omega (arith, ap length h-is, i .nonterminals)
-
     pub few-rules : length rules ≡ 0 → Within (grammarOf ss) → ⊥
     few-rules e i = omega (arith, ap length r-is, i .some-rule)

@@ -9,7 +9,7 @@ use lib.ListN.{length, getD, drop}
 use Rattle.std.specs.shelf.Text.{sameBytes}
 use Rattle.std.proofs.shelf.Lists.{drop-more, drop-all}
 use Rattle.std.proofs.shelf.Tests.{cond-true, cond-false, cases-bool, or-left, or-right, or-from}
-use Rattle.written.specs.Statements.{member, indexOf, noted}
+use Rattle.written.specs.Statements.{member, indexOf}
 
 -- A search for a spelling: what is left of the list gives the rest of the index.
 module _ (x : List ℕ) (xs : List (List ℕ)) (i : ℕ) (sofar : indexOf x xs ≡ i + indexOf x (drop i xs)) where
@@ -50,11 +50,3 @@ no-member-index x (y ∷ xs) h =
     (λ e. absurd (let k = cond-true (sameBytes x y) 0 (suc (indexOf x xs)) e in omega arith))
     (λ n. or-from (sameBytes x y) (member x xs) n (no-member-index x xs (let k = cond-false (sameBytes x y) 0 (suc (indexOf x xs)) n in omega arith)))
     (cases-bool (sameBytes x y))
-
-pub noted-old : (xs : List (List ℕ)) (x : List ℕ) → indexOf x xs < length xs → xs ≡ noted xs x
-unfolding noted
-noted-old xs x h = sym (cond-true (member x xs) xs (xs ++ x ∷ []) (member-index x xs h))
-
-pub noted-new : (xs : List (List ℕ)) (x : List ℕ) → length xs ≤ indexOf x xs → xs ++ x ∷ [] ≡ noted xs x
-unfolding noted
-noted-new xs x h = sym (cond-false (member x xs) xs (xs ++ x ∷ []) (no-member-index x xs h))

@@ -18,6 +18,6 @@ pub mod FormVerdict
 pub mod UniqueTokens
 pub mod UniqueStatements
 pub mod UniqueFault
+pub mod OneOpening
 pub mod FilledSheets
 pub mod JoinedLists
-pub mod ToldSpellings

@@ -11,7 +11,6 @@ use Rattle.std.proofs.shelf.Lists.{length-append}
 use Rattle.std.specs.declared.option.Option.the-variants.{Some, None}
 use Rattle.written.specs.Tokens.{Token, Placed}
 use Rattle.written.specs.Statements.{member, noted, distinctFrom}
-use Rattle.written.specs.Spelled.{Noted}
 use Rattle.written.specs.Walks.{pick, picked, betweenAfter, Collected, headless, firstHeadless}
 
 or-assoc : (a b c : Bool) → ((a || b) || c) ≡ (a || (b || c))
@@ -41,7 +40,6 @@ distinct-append seen [] ys = refl
 distinct-append seen (x ∷ xs) ys = distinct-append (noted seen x) xs ys
 
 noted-longer : (seen : List (List ℕ)) (x : List ℕ) → length seen ≤ length (noted seen x)
-unfolding noted
 noted-longer seen x = elim (member x seen) as (λ v. length seen ≤ length (cond v seen (seen ++ x ∷ []))) [ true ↦ omega arith | false ↦ (let long = length-append seen (x ∷ []) in omega arith) ]
 
 -- Spellings once noted stay.
@@ -63,10 +61,9 @@ unfolding distinctFrom
 distinct-nothing seen = refl
 
 -- A spelling noted is one collected.
-pub noted-collected : (r : Bool) (before after all : List (List ℕ)) (x : List ℕ) → Noted r before x after → x ∷ [] ≡ all → Collected r after (distinctFrom before all)
+pub noted-collected : (r : Bool) (before after all : List (List ℕ)) (x : List ℕ) → Collected r after (noted before x) → x ∷ [] ≡ all → Collected r after (distinctFrom before all)
 unfolding distinctFrom
-noted-collected true before after all x n e = n ∙ ap (distinctFrom before) e
-noted-collected false before after all x n e = subst (λ l. 63 < length (distinctFrom before l)) e (n .1)
+noted-collected r before after all x n e = subst (λ l. Collected r after (distinctFrom before l)) e n
 
 -- One token more is collected.
 module _ (heads b : Bool) (t : Token) (ts : List Token) (before after : List (List ℕ)) where

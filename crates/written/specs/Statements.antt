@@ -51,7 +51,7 @@ indexOf x [] = 0
 indexOf x (y ∷ ys) = cond (sameBytes x y) 0 (suc (indexOf x ys))
 
 -- A list of spellings with one more, unless it is there already.
-unfoldable pub noted : List (List ℕ) → List ℕ → List (List ℕ)
+abbrev pub noted : List (List ℕ) → List ℕ → List (List ℕ)
 noted seen x = cond (member x seen) seen (seen ++ x ∷ [])
 
 -- The spellings by first appearance, behind those seen already.

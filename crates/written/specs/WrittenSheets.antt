@@ -2,7 +2,7 @@
 use mathlib.Core.Path.{_≡_}
 use mathlib.Core.Bool.{Bool, true, false, cond}
 use mathlib.Core.List.{List, [], _∷_, _++_, map}
-use Prim.Native.Nat.{ℕ, zero, suc, _+_}
+use Prim.Native.Nat.{ℕ, zero, suc, _+_, _≤_}
 use lib.ListN.{length}
 use Rattle.std.specs.Finite.{nth}
 use Rattle.std.specs.declared.option.Option.{Option}
@@ -42,10 +42,34 @@ pub record Says (text : List ℕ) (ss : List Statement) : Type 0 where
   pub headed : headlessPlace placed ss ≡ None
   pub within : Within (grammarOf ss)
 
--- Done with just the grammar that the text means and its spellings, or refused and empty.
+-- The text means this grammar, with these spellings of its words and heads.
+abbrev pub Means : List ℕ → Grammar → List (List ℕ) → List (List ℕ) → Type 0
+Means text G words heads = (ss : List Statement) × Says text ss × (G ≡ grammarOf ss) × (words ≡ terminalsOf ss) × (heads ≡ nonterminalsOf ss)
+
+-- Taken in with just what the text means, or refused, whatever is left.
+abbrev pub Taken : List ℕ → Result (Unit {0}) Refusal → Grammar → List (List ℕ) → List (List ℕ) → Type 0
+Taken text (Ok x) G words heads = Means text G words heads
+Taken text (Err e) G words heads = Refused text e
+
+-- Done with just what the text means, or refused and empty.
 abbrev pub Opened : List ℕ → Result (Unit {0}) Refusal → Grammar → List (List ℕ) → List (List ℕ) → Type 0
-Opened text (Ok x) G words heads = (ss : List Statement) × Says text ss × (G ≡ grammarOf ss) × (words ≡ terminalsOf ss) × (heads ≡ nonterminalsOf ss)
+Opened text (Ok x) G words heads = Means text G words heads
 Opened text (Err e) G words heads = Refused text e × (G ≡ nothing) × (words ≡ []) × (heads ≡ [])
+
+-- Two answers tell the same: done both, or refused both with the same number and place.
+abbrev pub SameAnswer : Result (Unit {0}) Refusal → Result (Unit {0}) Refusal → Type 0
+SameAnswer (Ok x) (Ok y) = Unit {0}
+SameAnswer (Ok x) (Err f) = ⊥
+SameAnswer (Err e) (Ok y) = ⊥
+SameAnswer (Err e) (Err f) = told e ≡ told f
+
+-- A text leaves one answer, one grammar and one list of spellings each of words and heads.
+abbrev pub OneOpening : Type 0
+OneOpening = (text : List ℕ) (x y : Result (Unit {0}) Refusal) (G H : Grammar) (ws vs hs ks : List (List ℕ)) → Opened text x G ws hs → Opened text y H vs ks → SameAnswer x y × (G ≡ H) × (ws ≡ vs) × (hs ≡ ks)
+
+-- The numbers of words and of heads are within the limits; no more than 63 words are ever noted.
+abbrev pub CountsWithin : ℕ → ℕ → Type 0
+CountsWithin words heads = (1 ≤ words) × (1 ≤ heads) × (heads ≤ 24)
 
 -- The rules of the statements are in, or they are outside the limits.
 abbrev pub Filled : Bool → Grammar → List (List ℕ) → List (List ℕ) → List Statement → Type 0

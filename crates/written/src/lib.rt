@@ -10,3 +10,4 @@ mod written;
 
 pub use written::WrittenRuleSheet;
 pub use written::WrittenSheet;
+pub use written::one_opening;

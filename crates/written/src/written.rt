@@ -1,16 +1,21 @@
 // A sheet that is written as text.
 ghost use Rattle.grammar.specs.Grammar.{nothing};
+ghost use Rattle.sheet.specs.Readings.{ruleTold};
+ghost use Rattle.std.specs.Orderings.{Decides};
+ghost use Rattle.written.specs.RuleTables.{shortRuleOf};
 ghost use Rattle.written.specs.Spelled.{bytesOf, spelled};
 ghost use Rattle.written.specs.Statements.{Statement, Written};
 ghost use Rattle.written.specs.Tokens.{Placed};
-ghost use Rattle.written.specs.WrittenSheets.{Filled, Opened, spellingTold, wordCodeTold, writtenGrammar};
+ghost use Rattle.written.specs.WrittenSheets.{CountsWithin, Filled, OneOpening, Opened, Taken, spellingTold, wordCodeTold, writtenGrammar};
 ghost use Prim.Native.Nat.{ℕ};
 ghost use mathlib.Core.List.{List, []};
 ghost use mathlib.Core.Path.{_≡_};
 use super::draft::Draft;
 use super::form::misplaced;
 use super::rule_table::RuleTable;
+use super::short_rule::ShortRule;
 use super::spellings::Spellings;
+use super::spellings::noting::spelling_across;
 use super::walk::collect;
 use super::walk::first_headless;
 use grammar::Refusal;
@@ -22,6 +27,13 @@ pub struct WrittenSheet<'a> {
     words: Spellings<'a>,
     heads: Spellings<'a>,
     table: RuleTable,
+}
+
+// Whether there are enough words and heads, and not too many heads.
+fn counts_within(words: usize, heads: usize) -> bool
+    ensures { λ r. ⌜ Decides r (CountsWithin words heads) ⌝ }
+{
+    words >= 1 && heads >= 1 && heads <= 24
 }
 
 impl<'a> WrittenSheet<'a> {
@@ -50,7 +62,7 @@ impl<'a> WrittenSheet<'a> {
         }
         let words = self.words.count();
         let heads = self.heads.count();
-        if words == 0 || heads == 0 || heads > 24 {
+        if !counts_within(words, heads) {
             return false;
         }
         let mut draft = Draft::new();
@@ -65,11 +77,10 @@ impl<'a> WrittenSheet<'a> {
         true
     }
 
-    // Opens a text; refused, the sheet has counts 0 and no rule.
-    pub fn open(&mut self, text: &'a [u8]) -> Result<(), Refusal>
-        ensures { λ r. ⌜ Opened (now (text .entry)) r (writtenGrammar (now (self .exit))) (spelled (now (self .exit) .words)) (spelled (now (self .exit) .heads)) ⌝ }
+    // Takes a text in: its form is looked at first, then its names, then the limits. Refused, the sheet holds what it holds.
+    fn take(&mut self, text: &'a [u8]) -> Result<(), Refusal>
+        ensures { λ r. ⌜ Taken (now (text .entry)) r (writtenGrammar (now (self .exit))) (spelled (now (self .exit) .words)) (spelled (now (self .exit) .heads)) ⌝ }
     {
-        *self = WrittenSheet::new();
         if let Some(place) = misplaced(text) {
             return Err(Refusal::Form { place });
         }
@@ -79,19 +90,28 @@ impl<'a> WrittenSheet<'a> {
         if self.fill(text) {
             return Ok(());
         }
-        *self = WrittenSheet::new();
         Err(Refusal::Limits)
+    }
+
+    // Opens a text; refused, the sheet has counts 0 and no rule.
+    pub fn open(&mut self, text: &'a [u8]) -> Result<(), Refusal>
+        ensures { λ r. ⌜ Opened (now (text .entry)) r (writtenGrammar (now (self .exit))) (spelled (now (self .exit) .words)) (spelled (now (self .exit) .heads)) ⌝ }
+    {
+        match self.take(text) {
+            Ok(()) => Ok(()),
+            Err(refusal) => {
+                *self = WrittenSheet::new();
+                Err(refusal)
+            }
+        }
     }
 
     // The code of a word, by its spelling without quotes.
     pub fn word_code(&self, spelling: &[u8]) -> Option<u16>
         ensures { λ r. ⌜ r ≡ wordCodeTold (spelled (now (self .entry) .words)) (now (spelling .entry)) ⌝ }
     {
-        let at = self.words.find(spelling);
-        if at < self.words.count() {
-            return Some(1 + at as u16);
-        }
-        None
+        let at = self.words.place(spelling)?;
+        Some(1 + at as u16)
     }
 
     // The spelling of a code: of a word without its quotes, or of a head.
@@ -101,12 +121,17 @@ impl<'a> WrittenSheet<'a> {
         if code == 0 {
             return None;
         }
-        let i = code as usize - 1;
-        let words = self.words.count();
-        if i < words {
-            return self.words.spelling(i);
+        spelling_across(&self.words, &self.heads, code as usize - 1)
+    }
+
+    // The rule with a number, from 1.
+    fn numbered(&self, rule: u16) -> Option<ShortRule>
+        ensures { λ r. ⌜ shortRuleOf r ≡ ruleTold (writtenGrammar (now (self .entry))) rule ⌝ }
+    {
+        if rule == 0 {
+            return None;
         }
-        self.heads.spelling(i - words)
+        self.table.rule(rule as usize - 1)
     }
 }
 
@@ -126,32 +151,25 @@ pub impl<'a> RuleSheet for WrittenSheet<'a> as WrittenRuleSheet {
     }
 
     fn left(&self, rule: u16) -> Option<u16> {
-        if rule == 0 {
-            return None;
-        }
-        match self.table.rule(rule as usize - 1) {
-            Some(found) => Some(found.left()),
-            None => None,
-        }
+        let found = self.numbered(rule)?;
+        Some(found.left())
     }
 
     fn length(&self, rule: u16) -> Option<u16> {
-        if rule == 0 {
-            return None;
-        }
-        match self.table.rule(rule as usize - 1) {
-            Some(found) => Some(found.length()),
-            None => None,
-        }
+        let found = self.numbered(rule)?;
+        Some(found.length())
     }
 
     fn code(&self, rule: u16, place: u16) -> Option<u16> {
-        if rule == 0 {
-            return None;
-        }
-        match self.table.rule(rule as usize - 1) {
-            Some(found) => found.code(place),
-            None => None,
-        }
+        let found = self.numbered(rule)?;
+        found.code(place)
     }
+}
+
+// A theorem: what an opening promises leaves one answer only.
+pub fn one_opening() -> u8
+    ensures theorem { λ _. ⌜ OneOpening ⌝ }
+    ensures answer { λ r. ⌜ r ≡ 0 ⌝ }
+{
+    0
 }

@@ -1,11 +1,14 @@
 // Spellings by first appearance.
 ghost use Prim.Native.Nat.{_≤_};
-ghost use Rattle.written.specs.Spelled.{Noted, spelled, bytesOf};
-ghost use Rattle.written.specs.Statements.{indexOf};
+ghost use Rattle.written.specs.Spelled.{PlacedAt, bytesOf, spelled};
+ghost use Rattle.written.specs.Statements.{indexOf, member, noted};
+ghost use Rattle.written.specs.Walks.{Collected};
 ghost use Rattle.std.specs.Finite.{nth};
+ghost use Rattle.std.specs.Options.{Cases};
 ghost use Rattle.std.specs.shelf.Text.{sameBytes};
 ghost use lib.ListN.{length};
-ghost use mathlib.Core.List.{[]};
+ghost use mathlib.Core.Bool.{false};
+ghost use mathlib.Core.List.{[], _∷_, _++_};
 ghost use mathlib.Core.Path.{_≡_};
 use super::Spellings;
 
@@ -61,15 +64,22 @@ impl<'a> Spellings<'a> {
         None
     }
 
-    // One more spelling, unless it is there already; false where it would be the 64th.
-    pub(crate) fn note(&mut self, spelling: &'a [u8]) -> bool
-        ensures { λ r. ⌜ Noted r (spelled (now (self .entry))) (now (spelling .entry)) (spelled (now (self .exit))) ⌝ }
+    // The place of the spelling, from 0, if it is there.
+    pub(crate) fn place(&self, spelling: &[u8]) -> Option<usize>
+        ensures { λ r. ⌜ Cases r (member (now (spelling .entry)) (spelled (now (self .entry))) ≡ false) (λ i. PlacedAt (spelled (now (self .entry))) (now (spelling .entry)) i) ⌝ }
+    {
+        let at = self.find(spelling);
+        if at < self.count {
+            return Some(at);
+        }
+        None
+    }
+
+    // One more spelling at the end; false where it would be the 64th.
+    fn push(&mut self, spelling: &'a [u8]) -> bool
+        ensures { λ r. ⌜ Collected r (spelled (now (self .exit))) (spelled (now (self .entry)) ++ now (spelling .entry) ∷ []) ⌝ }
     {
         let count = self.count;
-        let at = self.find(spelling);
-        if at < count {
-            return true;
-        }
         if count >= 63 {
             return false;
         }
@@ -77,4 +87,29 @@ impl<'a> Spellings<'a> {
         self.count = count + 1;
         true
     }
+
+    // One more spelling, unless it is there already; false where it would be the 64th.
+    pub(crate) fn note(&mut self, spelling: &'a [u8]) -> bool
+        ensures { λ r. ⌜ Collected r (spelled (now (self .exit))) (noted (spelled (now (self .entry))) (now (spelling .entry))) ⌝ }
+    {
+        if self.place(spelling).is_some() {
+            return true;
+        }
+        self.push(spelling)
+    }
+}
+
+// The spelling with this number, from 0, in two tables of which one stands behind the other.
+pub(crate) fn spelling_across<'a>(
+    first: &Spellings<'a>,
+    second: &Spellings<'a>,
+    i: usize,
+) -> Option<&'a [u8]>
+    ensures { λ r. ⌜ bytesOf r ≡ nth (spelled (now (first .entry)) ++ spelled (now (second .entry))) i ⌝ }
+{
+    let count = first.count();
+    if i < count {
+        return first.spelling(i);
+    }
+    second.spelling(i - count)
 }
