@@ -3,3 +3,7 @@
 mod packed;
 #[cfg(test)]
 mod supplement;
+#[cfg(test)]
+mod written;
+#[cfg(test)]
+mod written_meaning;

@@ -6,14 +6,17 @@ use sheet::PackedRuleSheet;
 use sheet::PackedSheet;
 use sheet::RuleSheet;
 use sheet::pack;
+use std::env;
 use std::io;
 use std::io::Write;
 use written::WrittenRuleSheet;
 use written::WrittenSheet;
 
 mod explain;
+mod usage;
 
 use explain::explain;
+use usage::usage;
 
 // The longest packing of a written sheet: 3 counts, 96 places and 96 bodies of 10 numbers.
 const LONGEST: usize = 1059;
@@ -87,6 +90,9 @@ fn print_sheet(rt: &LibcRuntime, sheet: &WrittenSheet<'_>) -> io::Result<()> {
 }
 
 fn main(rt: LibcRuntime) -> io::Result<()> {
+    if env::args(&rt)?.len() > 1 {
+        return usage(&rt);
+    }
     let mut buffer = vec![in rt.alloc(); 0u8; MOST + 1]?;
     let have = fill(&mut rt.stdin(), &mut buffer)?;
     if have > MOST {
