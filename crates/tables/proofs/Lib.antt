@@ -1,1 +1,3 @@
 pub mod RuleArrays
+pub mod SheetArrays
+pub mod SheetRules

@@ -1,1 +1,3 @@
 pub mod Arrays
+pub mod Admitted
+pub mod SheetArrays

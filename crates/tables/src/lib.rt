@@ -1,3 +1,4 @@
 // From a rule sheet to its LALR(1) tables, stage by stage.
+mod limits;
 mod rules;
 mod states;
