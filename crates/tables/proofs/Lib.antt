@@ -1,3 +1,5 @@
 pub mod RuleArrays
 pub mod SheetArrays
 pub mod SheetRules
+pub mod TruthLists
+pub mod Closing

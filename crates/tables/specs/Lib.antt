@@ -1,3 +1,4 @@
 pub mod Arrays
 pub mod Admitted
 pub mod SheetArrays
+pub mod Closing

@@ -1,4 +1,5 @@
 // From a rule sheet to its LALR(1) tables, stage by stage.
+mod closure;
 mod limits;
 mod rules;
 mod states;
