@@ -3,3 +3,4 @@ pub mod SheetArrays
 pub mod SheetRules
 pub mod TruthLists
 pub mod Closing
+pub mod Moving
