@@ -4,3 +4,5 @@ pub mod SheetRules
 pub mod TruthLists
 pub mod Closing
 pub mod Moving
+pub mod Fingerprints
+pub mod StateArrays

@@ -2,3 +2,4 @@ pub mod Arrays
 pub mod Admitted
 pub mod SheetArrays
 pub mod Closing
+pub mod Fingerprints
