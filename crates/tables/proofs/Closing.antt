@@ -9,7 +9,7 @@ use lib.ListN.{length, getD, set, replicate, length-set, length-replicate}
 use Rattle.std.proofs.shelf.Tests.{both-ways, cases-eq, cases-lt}
 use Rattle.grammar.specs.ItemLists.{In, ClosureAt, CompletesAt, WaitsAt}
 use Rattle.tables.specs.declared.rules.Rules.{Rules}
-use Rattle.tables.specs.Closing.{Ahead, Grown, Full, falses}
+use Rattle.tables.specs.Closing.{Waiting, Ahead, Grown, Full, falses}
 use Rattle.tables.proofs.TruthLists.{in-below, in-none, in-set, in-keeps, in-split, falses-set}
 
 module _ (R : Rules) where
@@ -66,13 +66,16 @@ module _ (R : Rules) where
           ];
         }
 
-    pub seeded-all : (n : ℕ) (ahead : List Bool) → 9 * R .count + 9 ≤ n → Seeded n ahead → (X : ℕ) → 1 ≤ X → WaitsAt (R .right) xs X → In ahead X
-    seeded-all n ahead far s X low w =
-        subst (λ Y. In ahead Y) (w .code) (s .onto (w .item) (omega (arith, code-item (w .item) (omega (arith, w .code)))) (w .has))
+    pub seeded-all : (n : ℕ) (ahead : List Bool) → 9 * R .count + 9 ≤ n → Seeded n ahead → Waiting R xs ahead
+    seeded-all n ahead far s =
+        record {
+          from = s .from;
+          onto = λ X low w. subst (λ Y. In ahead Y) (w .code) (s .onto (w .item) (omega (arith, code-item (w .item) (omega (arith, w .code)))) (w .has));
+        }
 
-    pub grown-start : (ahead : List Bool) → ((X : ℕ) → In ahead X → WaitsAt (R .right) xs X) → ((X : ℕ) → 1 ≤ X → WaitsAt (R .right) xs X → In ahead X) → Grown R xs ahead
-    grown-start ahead from onto =
-        record { sound = λ X h. let w = from X h in record { item = w .item; has = ClosureAt.given (w .has); code = w .code }; base = onto }
+    pub grown-start : (ahead : List Bool) → Waiting R xs ahead → Grown R xs ahead
+    grown-start ahead w =
+        record { sound = λ X h. let v = w .from X h in record { item = v .item; has = ClosureAt.given (v .has); code = v .code }; base = w .onto }
 
     pub grown-more : (ahead : List Bool) (q : ℕ) → 1 ≤ q → q ≤ R .count → In ahead (getD (R .left) q 0) → Grown R xs ahead → Grown R xs (set ahead (getD (R .right) (9 * q) 0) true)
     grown-more ahead q low high left g =

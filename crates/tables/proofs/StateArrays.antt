@@ -30,17 +30,6 @@ pub printed-at : (end : ℕ) (prints : List ℕ) {n m : ℕ} {sets tets : List (
 printed-at end prints {n} {m} {sets} {tets} a b f =
     subst (λ k. Printed end k tets prints) (sym a) (subst (λ x. Printed end n x prints) (sym b) f)
 
--- A row as far as the entries before a code.
-pub record InRow (R : Rules) (s X : ℕ) (from : List Bool) (S : States) (prints : List ℕ) : Type 0 where
-  pub sofar : Sofar (grammarOf R) (S .count) (S .sets) (S .gotos) s X
-  pub printed : Printed (9 * R .count + 9) (S .count) (S .sets) prints
-  pub state : s < S .count
-  pub is : stateAt (S .sets) s ≡ from
-
-pub in-row-at : (R : Rules) (s X : ℕ) (from : List Bool) {S T : States} {prints qrints : List ℕ} → T ≡ S → qrints ≡ prints → InRow R s X from S prints → InRow R s X from T qrints
-in-row-at R s X from {S} {T} {prints} {qrints} a b f =
-    subst (λ U. InRow R s X from U qrints) (sym a) (subst (λ p. InRow R s X from S p) (sym b) f)
-
 -- Giving a set a number leaves the states before as they are.
 pub placed-keeps : {items : List Bool} {n m t : ℕ} {sets tets : List (List Bool)} → Placed items n sets m tets t → (s : ℕ) → s < n → (n ≤ m) × (stateAt tets s ≡ stateAt sets s)
 placed-keeps (old l e) s h = (omega arith, refl)
@@ -62,12 +51,8 @@ module _ (R : Rules) where
   array-waits : (xs : List Bool) (X : ℕ) → Waits (grammarOf R) (itemsOf xs) X → WaitsAt (R .right) xs X
   array-waits = list-waits (grammarOf R) (valid-rules R) (within-rules R) (R .left) (R .right) (laid-rules R)
 
-  pub is-code : (X : ℕ) → 1 ≤ X → X < R .terminals + R .nonterminals + 1 → IsCode (grammarOf R) X
+  pub is-code : (X : ℕ) → 1 ≤ X → X ≤ R .terminals + R .nonterminals → IsCode (grammarOf R) X
   is-code X low high = record { low = low; high = omega (arith, terminals-is R, nonterminals-is R) }
-
-  -- A code is below 88.
-  pub code-small : (X : ℕ) → IsCode (grammarOf R) X → X < 88
-  code-small X o = omega (arith, o .high, within-rules R .terminals, within-rules R .nonterminals)
 
   pub sofar-first : (sets : List (List Bool)) (gotos : List ℕ) (items : List Bool) → length sets ≡ 96 → length gotos ≡ 8448 → length items ≡ 873 → CompletesAt (R .left) (R .right) (R .count) originList items → Sofar (grammarOf R) 1 (set sets 0 items) gotos 0 1
   sofar-first sets gotos items a b size c =

@@ -7,6 +7,11 @@ use lib.ListN.{length, getD}
 use Rattle.grammar.specs.ItemLists.{In, ClosureAt, WaitsAt}
 use Rattle.tables.specs.declared.rules.Rules.{Rules}
 
+-- The codes behind the dots of a set; code 0 may stand for an item with its dot at the end.
+pub record Waiting (R : Rules) (xs ahead : List Bool) : Type 0 where
+  pub from : (X : ℕ) → In ahead X → WaitsAt (R .right) xs X
+  pub onto : (X : ℕ) → 1 ≤ X → WaitsAt (R .right) xs X → In ahead X
+
 -- A code behind a dot of the set completed.
 pub record Ahead (R : Rules) (xs : List Bool) (X : ℕ) : Type 0 where
   pub item : ℕ

@@ -3,3 +3,4 @@ pub mod Admitted
 pub mod SheetArrays
 pub mod Closing
 pub mod Fingerprints
+pub mod Rows

@@ -1,7 +1,8 @@
 // Completes sets of items: behind a dot before a nonterminal stand all its rules, with the dot in front.
 ghost use Prim.Native.Nat.{ℕ, _+_, _<_, _≤_};
-ghost use Rattle.grammar.specs.ItemLists.{CompletesAt, In, WaitsAt};
-ghost use Rattle.tables.specs.Closing.{Ahead, Full, Grown, falses};
+ghost use Rattle.grammar.specs.ItemLists.{CompletesAt, In};
+ghost use Rattle.tables.specs.Closing.{Ahead, Full, Grown, Waiting, falses};
+ghost use lib.ListN.{getD};
 ghost use mathlib.Core.Bool.{Bool, false, true};
 ghost use mathlib.Core.List.{List};
 ghost use mathlib.Core.Path.{_≡_};
@@ -9,8 +10,7 @@ use super::rules::Rules;
 
 // The codes behind the dots of a set. Code 0 is not to be looked at.
 pub fn waiting(rules: &Rules, items: &[bool; 873]) -> [bool; 88]
-    ensures from { λ r. ⌜ ((X : ℕ) → In r X → WaitsAt (now (rules .entry) .right) (now (items .entry)) X) ⌝ }
-    ensures onto { λ r. ⌜ ((X : ℕ) → 1 ≤ X → WaitsAt (now (rules .entry) .right) (now (items .entry)) X → In r X) ⌝ }
+    ensures { λ r. ⌜ Waiting (now (rules .entry)) (now (items .entry)) r ⌝ }
 {
     let mut ahead = [false; 88];
     for i in 0..9 * rules.count as usize + 9 {
@@ -19,6 +19,14 @@ pub fn waiting(rules: &Rules, items: &[bool; 873]) -> [bool; 88]
         }
     }
     ahead
+}
+
+// Whether the left side of a rule is ahead.
+fn begins(rules: &Rules, ahead: &[bool; 88], q: usize) -> bool
+    requires { ⌜ q < 97 ⌝ }
+    ensures { λ r. ⌜ r ≡ getD (now (ahead .entry)) (getD (now (rules .entry) .left) q 0) false ⌝ }
+{
+    ahead[rules.left[q] as usize]
 }
 
 // Adds the first code of each rule whose left side is ahead; whether there was one to add.
@@ -30,7 +38,7 @@ fn sweep(rules: &Rules, ahead: &mut [bool; 88]) -> bool
     let mut more = false;
     for q in 1..rules.count as usize + 1 {
         let first = rules.right[9 * q] as usize;
-        if ahead[rules.left[q] as usize] && !ahead[first] {
+        if begins(rules, ahead, q) && !ahead[first] {
             ahead[first] = true;
             more = true;
         }
@@ -54,7 +62,7 @@ pub fn complete(rules: &Rules, items: &mut [bool; 873])
 {
     let ahead = ahead_of(rules, items);
     for q in 1..rules.count as usize + 1 {
-        if ahead[rules.left[q] as usize] {
+        if begins(rules, &ahead, q) {
             items[9 * q] = true;
         }
     }

@@ -1,5 +1,6 @@
 // Reads a rule sheet into arrays, if it is within the limits and all codes are in range.
-ghost use Prim.Native.Nat.{ℕ, _*_, _+_, _≤_, suc};
+ghost use Prim.Native.Nat.{ℕ, _*_, _+_, _<_, _≤_, suc};
+ghost use lib.Dec.{leb};
 ghost use Rattle.grammar.specs.Grammar.{AllCodes, rightSide};
 ghost use Rattle.grammar.specs.Outcome.{Within};
 ghost use Rattle.tables.specs.Admitted.{Admitted};
@@ -38,6 +39,36 @@ fn counted<S: RuleSheet>(sheet: &S) -> bool
     1 <= rules && rules <= 96
 }
 
+// Whether a right side can be this long.
+fn short_enough(length: u16) -> bool
+    ensures { λ r. ⌜ r ≡ leb length 8 ⌝ }
+{
+    length <= 8
+}
+
+// Whether a number is a code of a terminal or a nonterminal, of which `top` is the last.
+fn is_code(code: u16, top: u16) -> bool
+    ensures yes { λ r. ⌜ (r ≡ true → (1 ≤ code) × (code ≤ top)) ⌝ }
+    ensures no { λ r. ⌜ (r ≡ false → 1 ≤ code → code ≤ top → ⊥) ⌝ }
+{
+    1 <= code && code <= top
+}
+
+// Whether a number is a code of a nonterminal.
+fn is_nonterminal(code: u16, terminals: u16, top: u16) -> bool
+    ensures yes { λ r. ⌜ (r ≡ true → (terminals < code) × (code ≤ top)) ⌝ }
+    ensures no { λ r. ⌜ (r ≡ false → terminals < code → code ≤ top → ⊥) ⌝ }
+{
+    terminals < code && code <= top
+}
+
+// The refusal that tells this rule.
+fn out_of_range(rule: u16) -> Refusal
+    ensures { λ r. ⌜ r ≡ Refusal.Range rule ⌝ }
+{
+    Refusal::Range { rule }
+}
+
 // The lengths of the right sides by rule, with that of rule 0; none if one is longer than 8.
 fn sizes<S: RuleSheet>(sheet: &S) -> Option<[u8; 97]>
     requires { ⌜ Counted (S·RuleSheet .meaning (now sheet)) ⌝ }
@@ -47,7 +78,7 @@ fn sizes<S: RuleSheet>(sheet: &S) -> Option<[u8; 97]>
     size[0] = 1;
     for rule in 1..sheet.rules() + 1 {
         let length = or_zero(sheet.length(rule));
-        if length > 8 {
+        if !short_enough(length) {
             return None;
         }
         size[rule as usize] = length as u8;
@@ -65,7 +96,7 @@ fn codes<S: RuleSheet>(sheet: &S, rule: u16, size: u8, top: u16, right: &mut [u8
 {
     for place in 0..size as u16 {
         let code = or_zero(sheet.code(rule, place));
-        if code == 0 || code > top {
+        if !is_code(code, top) {
             return false;
         }
         right[9 * rule as usize + place as usize] = code as u8;
@@ -86,12 +117,12 @@ fn sides<S: RuleSheet>(sheet: &S, size: [u8; 97]) -> Result<Rules, Refusal>
     right[0] = terminals as u8 + 1;
     for rule in 1..sheet.rules() + 1 {
         let side = or_zero(sheet.left(rule));
-        if side <= terminals || side > top {
-            return Err(Refusal::Range { rule });
+        if !is_nonterminal(side, terminals, top) {
+            return Err(out_of_range(rule));
         }
         left[rule as usize] = side as u8;
         if !codes(sheet, rule, size[rule as usize], top, &mut right) {
-            return Err(Refusal::Range { rule });
+            return Err(out_of_range(rule));
         }
     }
     Ok(Rules {

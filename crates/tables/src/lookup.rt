@@ -2,6 +2,7 @@
 ghost use Prim.Native.Nat.{ℕ, _<_, _≤_};
 ghost use Rattle.grammar.specs.StateLists.{Placed, stateAt};
 ghost use Rattle.tables.specs.Fingerprints.{Printed, cubes};
+ghost use lib.Dec.{leb};
 ghost use lib.ListN.{getD};
 ghost use mathlib.Core.Bool.{false, true};
 ghost use mathlib.Core.Path.{_≡_};
@@ -48,6 +49,13 @@ fn find(states: &States, prints: &[u64; 96], items: &[bool; 873], print: u64) ->
     states.count
 }
 
+// Whether there is no room for another state.
+fn full(states: &States) -> bool
+    ensures { λ r. ⌜ r ≡ leb 96 (now (states .entry) .count) ⌝ }
+{
+    states.count >= 96
+}
+
 // The number of a set, which is put at the end if it is new; 96 if there is no room for it.
 pub fn place(states: &mut States, prints: &mut [u64; 96], items: &[bool; 873], end: usize) -> usize
     requires end { ⌜ end ≤ 873 ⌝ }
@@ -61,7 +69,7 @@ pub fn place(states: &mut States, prints: &mut [u64; 96], items: &[bool; 873], e
     if t < states.count {
         return t;
     }
-    if t == 96 {
+    if full(states) {
         return 96;
     }
     prints[t] = print;

@@ -1,10 +1,11 @@
 // Numbers the states: states are taken by rising number and the codes of each by rising code, and a set met before keeps its number.
 ghost use Prim.Native.Nat.{_*_, _+_, _<_, _≤_};
-ghost use Rattle.grammar.specs.ItemLists.{WaitsAt};
-ghost use Rattle.grammar.specs.StateLists.{IsCode, Sofar, stateAt};
+ghost use Rattle.grammar.specs.StateLists.{Sofar, stateAt};
 ghost use Rattle.grammar.specs.States.{Crowded, Numbered};
 ghost use Rattle.tables.specs.Arrays.{automaton, grammarOf};
+ghost use Rattle.tables.specs.Closing.{Waiting};
 ghost use Rattle.tables.specs.Fingerprints.{Printed};
+ghost use Rattle.tables.specs.Rows.{InRow};
 ghost use lib.ListN.{set};
 ghost use mathlib.Core.Bool.{false, true};
 ghost use mathlib.Core.Path.{_≡_};
@@ -39,27 +40,26 @@ fn begin(rules: &Rules, states: &mut States, prints: &mut [u64; 96])
     states.count = 1;
 }
 
-// The entry of a state at a code behind one of its dots; no if a 97th state is needed.
-fn step(
+// The entry of a state at a code; no if a 97th state is needed.
+fn entry(
     rules: &Rules,
     states: &mut States,
     prints: &mut [u64; 96],
     s: usize,
     from: &[bool; 873],
+    ahead: &[bool; 88],
     code: u8,
 ) -> bool
-    requires sofar { ⌜ Sofar (grammarOf (now rules)) (now states .count) (now states .sets) (now states .gotos) s code ⌝ }
-    requires printed { ⌜ Printed (9 * now rules .count + 9) (now states .count) (now states .sets) (now prints) ⌝ }
-    requires state { ⌜ s < now states .count ⌝ }
-    requires from { ⌜ stateAt (now states .sets) s ≡ now from ⌝ }
-    requires code { ⌜ IsCode (grammarOf (now rules)) code ⌝ }
-    requires waits { ⌜ WaitsAt (now rules .right) (now from) code ⌝ }
-    ensures sofar { λ r. ⌜ (r ≡ true → Sofar (grammarOf (now (rules .entry))) (now (states .exit) .count) (now (states .exit) .sets) (now (states .exit) .gotos) s (code + 1)) ⌝ }
-    ensures printed { λ _. ⌜ Printed (9 * now (rules .entry) .count + 9) (now (states .exit) .count) (now (states .exit) .sets) (now (prints .exit)) ⌝ }
-    ensures state { λ _. ⌜ s < now (states .exit) .count ⌝ }
-    ensures from { λ _. ⌜ stateAt (now (states .exit) .sets) s ≡ now (from .entry) ⌝ }
+    requires waiting { ⌜ Waiting (now rules) (now from) (now ahead) ⌝ }
+    requires code { ⌜ (1 ≤ code) × (code ≤ now rules .terminals + now rules .nonterminals) ⌝ }
+    requires row { ⌜ InRow (now rules) s (now from) (now states) (now prints) code ⌝ }
+    ensures row { λ r. ⌜ (r ≡ true → InRow (now (rules .entry)) s (now (from .entry)) (now (states .exit)) (now (prints .exit)) (code + 1)) ⌝ }
     ensures crowded { λ r. ⌜ (r ≡ false → Crowded (grammarOf (now (rules .entry)))) ⌝ }
 {
+    if !ahead[code as usize] {
+        enter(states, s, code, 255);
+        return true;
+    }
     let mut items = advance(rules, from, code);
     complete(rules, &mut items);
     let t = place(states, prints, &items, 9 * rules.count as usize + 9);
@@ -72,22 +72,16 @@ fn step(
 
 // The entries of a state; no if a 97th state is needed.
 fn row(rules: &Rules, states: &mut States, prints: &mut [u64; 96], s: usize) -> bool
-    requires sofar { ⌜ Sofar (grammarOf (now rules)) (now states .count) (now states .sets) (now states .gotos) s 1 ⌝ }
-    requires printed { ⌜ Printed (9 * now rules .count + 9) (now states .count) (now states .sets) (now prints) ⌝ }
-    requires state { ⌜ s < now states .count ⌝ }
-    ensures sofar { λ r. ⌜ (r ≡ true → Sofar (grammarOf (now (rules .entry))) (now (states .exit) .count) (now (states .exit) .sets) (now (states .exit) .gotos) (s + 1) 1) ⌝ }
-    ensures printed { λ r. ⌜ Printed (9 * now (rules .entry) .count + 9) (now (states .exit) .count) (now (states .exit) .sets) (now (prints .exit)) ⌝ }
+    requires { ⌜ InRow (now rules) s (stateAt (now states .sets) s) (now states) (now prints) 1 ⌝ }
+    ensures next { λ r. ⌜ (r ≡ true → Sofar (grammarOf (now (rules .entry))) (now (states .exit) .count) (now (states .exit) .sets) (now (states .exit) .gotos) (s + 1) 1) ⌝ }
+    ensures printed { λ r. ⌜ (r ≡ true → Printed (9 * now (rules .entry) .count + 9) (now (states .exit) .count) (now (states .exit) .sets) (now (prints .exit))) ⌝ }
     ensures crowded { λ r. ⌜ (r ≡ false → Crowded (grammarOf (now (rules .entry)))) ⌝ }
 {
     let from = states.sets[s];
     let ahead = waiting(rules, &from);
     for code in 1..rules.terminals + rules.nonterminals + 1 {
-        if ahead[code as usize] {
-            if !step(rules, states, prints, s, &from, code) {
-                return false;
-            }
-        } else {
-            enter(states, s, code, 255);
+        if !entry(rules, states, prints, s, &from, &ahead, code) {
+            return false;
         }
     }
     true

@@ -2,7 +2,7 @@ use Rattle.tables.proofs.Closing.{grown-start, grown-whole}
 use Rattle.tables.proofs.closure.ahead_of.Needs as need
 
 pub loop-holds : need.loop-holds
-loop-holds c = grown-start (c .args .rules .now) (c .args .items .now) (c .waiting-ahead .result) (c .waiting-ahead .ensures .from) (c .waiting-ahead .ensures .onto)
+loop-holds c = grown-start (c .args .rules .now) (c .args .items .now) (c .waiting-ahead .result) (c .waiting-ahead .ensures)
 
 pub returns : need.returns
 returns c =

@@ -18,7 +18,4 @@ loop-i-again c =
     ]
 
 pub returns : need.returns
-returns c = record {
-  from = c .loop-i .inv .from;
-  onto = seeded-all (c .args .rules .now) (c .args .items .now) (c .loop-i .i) (c .loop-i .ahead) (omega arith) (c .loop-i .inv);
-}
+returns c = seeded-all (c .args .rules .now) (c .args .items .now) (c .loop-i .i) (c .loop-i .ahead) (omega arith) (c .loop-i .inv)

@@ -1,11 +1,9 @@
-use mathlib.Core.Path.{_≡_, refl, ap, subst, _∙_}
-use mathlib.Core.Logic.{_⊎_, inl, inr}
-use mathlib.Core.List.{List}
+use mathlib.Core.Path.{_≡_, sym, ap, subst, _∙_}
 use Prim.Native.Nat.{ℕ, suc, _+_, _-_, _*_, _≤_, _<_}
 use native.Mathlib.Omega.{arith}
 use lib.ListN.{length}
-use Rattle.grammar.specs.Grammar.{Grammar, leftSide}
-use Rattle.grammar.specs.Outcome.{InRange, out-of-range}
+use Rattle.grammar.specs.Grammar.{Grammar}
+use Rattle.grammar.specs.Outcome.{Outcome, refused, out-of-range}
 use Rattle.tables.specs.SheetArrays.{orZero, Sides, Lengths}
 use Rattle.tables.proofs.SheetArrays.{told-left}
 use Rattle.tables.proofs.SheetRules.{sides-first, sides-more, lowest, read-grammar, kept-short, kept-lefts, kept-leftsbelow, kept-inside, kept-ended, kept-past, kept-below, kept-firstsize, kept-firstcode}
@@ -14,18 +12,14 @@ use Rattle.tables.proofs.limits.sides.Needs as need
 pub loop-rule-holds : need.loop-rule-holds
 loop-rule-holds g c = sides-first (g .S·RuleSheet .meaning (c .args .sheet .now)) (c .terminals-terminals .result) (c .terminals-terminals .ensures)
 
--- A left side that is no nonterminal.
-no-side : (G : Grammar) (r x t top : ℕ) → x ≡ leftSide G r → t ≡ G .terminals → top ≡ G .terminals + G .nonterminals → (x ≤ t) ⊎ ((t < x) × (top < x)) → InRange G r → ⊥
-no-side G r x t top is a b (inl h) range = omega (arith, range .left .low)
-no-side G r x t top is a b (inr h) range = omega (arith, h .1, range .left .high)
-
-pub returns-then-side-terminals : need.returns-then-side-terminals
-returns-then-side-terminals g c =
+pub returns-then-not-is-nonterminal : need.returns-then-not-is-nonterminal
+returns-then-not-is-nonterminal g c =
     let G = g .S·RuleSheet .meaning (c .args .sheet .now) in
     let r = c .loop-rule .rule in
     let is = c .or-zero-side .ensures ∙ ap orZero (c .left .ensures) ∙ told-left G r (omega arith) in
-    out-of-range (c .pre .within) (lowest G r (c .loop-rule .left) (c .loop-rule .right) (c .loop-rule .inv) (omega arith) (omega arith)
-    (no-side G r (c .or-zero-side .result) (c .terminals-terminals .result) (c .terminals-terminals .result + c .nonterminals .result) is (c .terminals-terminals .ensures) (omega arith) (c .then-side-terminals .either)))
+    subst (λ e. Outcome G (refused e)) (sym (c .out-of-range .ensures))
+    (out-of-range (c .pre .within) (lowest G r (c .loop-rule .left) (c .loop-rule .right) (c .loop-rule .inv) (omega arith) (omega arith)
+    λ range. c .is-nonterminal .ensures .no (c .if-not-is-nonterminal .taken) (omega (arith, range .left .low, is)) (omega (arith, range .left .high, is))))
 
 pub codes-requires : need.codes-requires
 codes-requires g c κs =
@@ -41,8 +35,9 @@ pub returns-then-not-codes : need.returns-then-not-codes
 returns-then-not-codes g c =
     let G = g .S·RuleSheet .meaning (c .args .sheet .now) in
     let r = c .loop-rule .rule in
-    out-of-range (c .pre .within) (lowest G r (c .loop-rule .left) (c .loop-rule .right) (c .loop-rule .inv) (omega arith) (omega arith)
-    (λ range. c .codes .ensures .no (c .if-not-codes .taken) (range .right)))
+    subst (λ e. Outcome G (refused e)) (sym (c .out-of-range-then-not-codes .ensures))
+    (out-of-range (c .pre .within) (lowest G r (c .loop-rule .left) (c .loop-rule .right) (c .loop-rule .inv) (omega arith) (omega arith)
+    (λ range. c .codes .ensures .no (c .if-not-codes .taken) (range .right))))
 
 pub loop-rule-again : need.loop-rule-again
 loop-rule-again g c =
@@ -50,8 +45,9 @@ loop-rule-again g c =
     let r = c .loop-rule .rule in
     let b : r < suc (length (G .rules)) = omega arith in
     let is = c .or-zero-side .ensures ∙ ap orZero (c .left .ensures) ∙ told-left G r (omega arith) in
+    let ok = c .is-nonterminal .ensures .yes (c .if-not-is-nonterminal .left) in
     sides-more G r (c .or-zero-side .result) _ (c .terminals-terminals .result + c .nonterminals .result) (c .loop-rule .left) (c .loop-rule .right) (c .codes .last .right) (c .loop-rule .inv) (omega arith) (omega arith) is
-    (record { low = omega (arith, c .if-side-terminals .left); high = omega (arith, c .if-side-top .left) })
+    (record { low = omega (arith, ok .0); high = omega (arith, ok .1) })
     (c .pre .lengths .below r b) (c .pre .lengths .short r b) (omega arith) (c .codes .ensures .yes (c .if-not-codes .left))
 
 pub ghost-result : need.ghost-result
