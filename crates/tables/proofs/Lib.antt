@@ -1,1 +1,4 @@
 pub mod RuleArrays
+pub mod CodeMarks
+pub mod MarkedWords
+pub mod NullableMarks

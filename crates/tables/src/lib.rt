@@ -1,3 +1,5 @@
 // From a rule sheet to its LALR(1) tables, stage by stage.
+mod marked_words;
+mod nullable;
 mod rules;
 mod states;
