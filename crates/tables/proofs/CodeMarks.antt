@@ -23,11 +23,11 @@ split marks X Y h =
       | inr ne ↦ inr (sym (getD-set-other marks X Y true false ne) ∙ h)
     ]
 
+-- The same at every place, and past the end.
+pub alike : {A : Type 0} (x : A) (n X : ℕ) → getD (replicate n x) X x ≡ x
+alike x zero X = refl
+alike x (suc n) zero = refl
+alike x (suc n) (suc X) = alike x n X
+
 pub none-marked : (n X : ℕ) → Marked (replicate n false) X → ⊥
-none-marked n X h =
-    both-ways (getD (replicate n false) X false) (unmarked n X) h
-  where
-    unmarked : (n X : ℕ) → getD (replicate n false) X false ≡ false
-    unmarked zero X = refl
-    unmarked (suc n) zero = refl
-    unmarked (suc n) (suc X) = unmarked n X
+none-marked n X h = both-ways (getD (replicate n false) X false) (alike false n X) h

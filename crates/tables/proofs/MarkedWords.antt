@@ -1,22 +1,22 @@
 -- The marks that rounds over the rules leave are those of the codes that derive marked words.
-use mathlib.Core.Path.{_≡_, refl, sym, ap, subst, _∙_}
+use mathlib.Core.Path.{_≡_, sym, ap, subst, _∙_}
 use mathlib.Core.List.{List, [], _∷_, _++_}
 use mathlib.Core.Bool.{Bool, true, false, cond}
-use mathlib.Core.Logic.{_⊎_, inl, inr}
-use Prim.Native.Nat.{ℕ, zero, suc, _+_, _*_, _≤_, _<_}
+use mathlib.Core.Logic.{inl, inr}
+use Prim.Native.Nat.{ℕ, _+_, _*_, _<_}
 use native.Mathlib.Omega.{arith}
-use lib.ListN.{length, getD, set, replicate}
+use lib.ListN.{length, getD, set}
 use Rattle.std.specs.shelf.Lists.{All, sumBy}
 use Rattle.std.proofs.shelf.Elements.{all-getD, all-from-getD, all-append}
 use Rattle.std.proofs.shelf.Lists.{length-set}
 use Rattle.std.proofs.shelf.Sums.{sumBy-set}
-use Rattle.grammar.specs.Grammar.{Grammar, IsTerminal, IsRule, leftSide, rightSide}
-use Rattle.grammar.specs.Trees.{Forest, empty, leaf, node, Tree}
+use Rattle.grammar.specs.Grammar.{Grammar, IsRule, leftSide, rightSide}
+use Rattle.grammar.specs.Trees.{Forest, empty, leaf, node}
 use Rattle.grammar.proofs.Forests.{join, tree}
 use Rattle.tables.specs.declared.rules.Rules.{Rules}
 use Rattle.tables.specs.Arrays.{grammarOf}
 use Rattle.tables.specs.CodeMarks.{Marked, MarksOf}
-use Rattle.tables.specs.MarkedWords.{DerivesMarked, TerminalsOnly, RightMarked, Lacks, Full}
+use Rattle.tables.specs.MarkedWords.{DerivesMarked, TerminalsOnly, Lacks, Full}
 use Rattle.tables.proofs.CodeMarks.{kept, split}
 use Rattle.tables.proofs.RuleArrays.{is-rule, rule-high, left-is, right-length, right-code}
 

@@ -3,3 +3,5 @@ pub mod CodeMarks
 pub mod MarkedWords
 pub mod NullableMarks
 pub mod ProductiveMarks
+pub mod UsedBy
+pub mod UsedMarks

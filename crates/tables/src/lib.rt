@@ -4,3 +4,4 @@ mod nullable;
 mod productive;
 mod rules;
 mod states;
+mod useful;
