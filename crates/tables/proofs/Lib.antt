@@ -6,3 +6,8 @@ pub mod ProductiveMarks
 pub mod UsedBy
 pub mod UsedMarks
 pub mod UselessCodes
+pub mod SheetArrays
+pub mod SheetRules
+pub mod TruthLists
+pub mod Closing
+pub mod Moving

@@ -16,7 +16,7 @@ use Rattle.tables.specs.declared.rules.Rules.{Rules}
 use Rattle.tables.specs.Arrays.{ruleAt, rulesFrom, grammarOf}
 
 -- Numbers from 1 to T + N are codes.
-each-code : (G : Grammar) (l : List ℕ) → ((d : ℕ) → d < length l → (1 ≤ getD l d 0) × (getD l d 0 ≤ G .terminals + G .nonterminals)) → AllCodes G l
+pub each-code : (G : Grammar) (l : List ℕ) → ((d : ℕ) → d < length l → (1 ≤ getD l d 0) × (getD l d 0 ≤ G .terminals + G .nonterminals)) → AllCodes G l
 each-code G [] h = tt
 each-code G (x ∷ l) h =
     (here, each-code G l (λ d k. h (suc d) (omega arith)))

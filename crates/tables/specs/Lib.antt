@@ -5,3 +5,6 @@ pub mod NullableMarks
 pub mod ProductiveMarks
 pub mod UsedBy
 pub mod UsedMarks
+pub mod Admitted
+pub mod SheetArrays
+pub mod Closing

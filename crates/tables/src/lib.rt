@@ -1,5 +1,8 @@
 // From a rule sheet to its LALR(1) tables, stage by stage.
+mod closure;
+mod limits;
 mod marked_words;
+mod moves;
 mod nullable;
 mod productive;
 mod rules;

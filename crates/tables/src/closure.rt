@@ -1,0 +1,61 @@
+// Completes sets of items: behind a dot before a nonterminal stand all its rules, with the dot in front.
+ghost use Prim.Native.Nat.{ℕ, _+_, _<_, _≤_};
+ghost use Rattle.grammar.specs.ItemLists.{CompletesAt, In, WaitsAt};
+ghost use Rattle.tables.specs.Closing.{Ahead, Full, Grown, falses};
+ghost use mathlib.Core.Bool.{Bool, false, true};
+ghost use mathlib.Core.List.{List};
+ghost use mathlib.Core.Path.{_≡_};
+use super::rules::Rules;
+
+// The codes behind the dots of a set. Code 0 is not to be looked at.
+pub fn waiting(rules: &Rules, items: &[bool; 873]) -> [bool; 88]
+    ensures from { λ r. ⌜ ((X : ℕ) → In r X → WaitsAt (now (rules .entry) .right) (now (items .entry)) X) ⌝ }
+    ensures onto { λ r. ⌜ ((X : ℕ) → 1 ≤ X → WaitsAt (now (rules .entry) .right) (now (items .entry)) X → In r X) ⌝ }
+{
+    let mut ahead = [false; 88];
+    for i in 0..9 * rules.count as usize + 9 {
+        if items[i] {
+            ahead[rules.right[i] as usize] = true;
+        }
+    }
+    ahead
+}
+
+// Adds the first code of each rule whose left side is ahead; whether there was one to add.
+fn sweep(rules: &Rules, ahead: &mut [bool; 88]) -> bool
+    ensures grown { λ _. ⌜ ((xs : List Bool) → Grown (now (rules .entry)) xs (now (ahead .entry)) → Grown (now (rules .entry)) xs (now (ahead .exit))) ⌝ }
+    ensures fewer { λ r. ⌜ (r ≡ true → falses (now (ahead .exit)) < falses (now (ahead .entry))) ⌝ }
+    ensures full { λ r. ⌜ (r ≡ false → Full (now (rules .entry)) (now (ahead .exit)) (now (rules .entry) .count + 1)) ⌝ }
+{
+    let mut more = false;
+    for q in 1..rules.count as usize + 1 {
+        let first = rules.right[9 * q] as usize;
+        if ahead[rules.left[q] as usize] && !ahead[first] {
+            ahead[first] = true;
+            more = true;
+        }
+    }
+    more
+}
+
+// The codes behind the dots of a set completed.
+fn ahead_of(rules: &Rules, items: &[bool; 873]) -> [bool; 88]
+    ensures sound { λ r. ⌜ ((X : ℕ) → In r X → Ahead (now (rules .entry)) (now (items .entry)) X) ⌝ }
+    ensures whole { λ r. ⌜ ((X : ℕ) → 1 ≤ X → Ahead (now (rules .entry)) (now (items .entry)) X → In r X) ⌝ }
+{
+    let mut ahead = waiting(rules, items);
+    while sweep(rules, &mut ahead) {}
+    ahead
+}
+
+// Completes a set.
+pub fn complete(rules: &Rules, items: &mut [bool; 873])
+    ensures { λ _. ⌜ CompletesAt (now (rules .entry) .left) (now (rules .entry) .right) (now (rules .entry) .count) (now (items .entry)) (now (items .exit)) ⌝ }
+{
+    let ahead = ahead_of(rules, items);
+    for q in 1..rules.count as usize + 1 {
+        if ahead[rules.left[q] as usize] {
+            items[9 * q] = true;
+        }
+    }
+}
