@@ -3,7 +3,6 @@ use mathlib.Core.Path.{_≡_, refl, sym, ap, subst, _∙_}
 use mathlib.Core.Bool.{true, false}
 use mathlib.Core.Logic.{inl, inr}
 use Prim.Native.Nat.{ℕ, zero, suc, _+_, _-_, _*_, _≤_, _<_}
-use native.Mathlib.Numerals.{add-one}
 use native.Mathlib.Omega.{arith}
 use lib.Dec.{eqb}
 use lib.ListN.{length, getD}
@@ -11,7 +10,7 @@ use Rattle.std.specs.Finite.{nth}
 use Rattle.std.specs.declared.option.Option.the-variants.{Some, None}
 use Rattle.std.proofs.shelf.Counted.{length-map-counting, getD-map-counting}
 use Rattle.std.proofs.shelf.Maps.{nth-getD, nth-past}
-use Rattle.std.proofs.shelf.Tests.{or-cases, or-left, or-right, or-from, eq-eqb, ne-eqb, eqb-true, cases-eq, cases-lt, cases-bool, cond-true, cond-false, both-ways}
+use Rattle.std.proofs.shelf.Tests.{or-cases, or-left, or-right, eq-eqb, eqb-true, cases-eq, cases-lt, cases-bool, cond-true, cond-false, both-ways}
 use Rattle.grammar.specs.Grammar.{IsRule, start, leftSide}
 use Rattle.grammar.specs.Items.{CodeAt}
 use Rattle.grammar.specs.Useful.{Used, at-start, in-rule}
@@ -20,21 +19,12 @@ use Rattle.grammar.proofs.Codes.{dot-below, code-in-range}
 use Rattle.gather.specs.Reach.{Step, Reaches, here, step}
 use Rattle.tables.specs.declared.rules.Rules.{Rules}
 use Rattle.tables.specs.Arrays.{grammarOf}
-use Rattle.tables.specs.UsedBy.{standsBelow, stands, user, users}
+use Rattle.tables.specs.UsedBy.{Absent, standsBelow, userBy, users}
 use Rattle.tables.proofs.RuleArrays.{is-rule, rule-high, left-is, terminals-is, nonterminals-is, laid-rules, valid-rules, within-rules}
 
 module _ (R : Rules) where
-  -- A search through the codes on the right of a rule.
-  pub stands-none : (r X : ℕ) → standsBelow R r X 0 ≡ false
-  unfolding standsBelow
-  stands-none r X = refl
-
-  pub stands-more : (r X n : ℕ) → (getD (R .right) (9 * r + n) 0 ≡ X → ⊥) → standsBelow R r X n ≡ false → standsBelow R r X (n + 1) ≡ false
-  unfolding standsBelow
-  stands-more r X n ne h =
-      ap (standsBelow R r X) (add-one n) ∙ or-from (eqb (getD (R .right) (9 * r + n) 0) X) (standsBelow R r X n) (ne-eqb _ X ne) h
-
-  pub stands-at : (r X n d : ℕ) → d < n → getD (R .right) (9 * r + d) 0 ≡ X → standsBelow R r X n ≡ true
+  -- Where the test of the first n codes on the right of a rule finds the code.
+  stands-at : (r X n d : ℕ) → d < n → getD (R .right) (9 * r + d) 0 ≡ X → standsBelow R r X n ≡ true
   unfolding standsBelow
   stands-at r X zero d l e = absurd (omega arith)
   stands-at r X (suc n) d l e =
@@ -52,28 +42,31 @@ module _ (R : Rules) where
         | inr k ↦ let w = at-stands r X n k in (w .0, omega (arith, w .1), w .2)
       ]
 
+  -- What uses a code by a rule.
+  user-is : (X r u : ℕ) → ((Absent R r X → ⊥) → u ≡ getD (R .left) r 0) → (Absent R r X → u ≡ 88) → userBy R X r ≡ u
+  unfolding userBy
+  user-is X r u left none =
+      let test = standsBelow R r X (getD (R .size) r 0) in
+      elim (cases-bool test) [
+        | inl h ↦ let w = at-stands r X (getD (R .size) r 0) h in cond-true test _ _ h ∙ sym (left (λ a. a (w .0) (w .1) (w .2)))
+        | inr h ↦ cond-false test _ _ h ∙ sym (none (λ d l e. both-ways test h (stands-at r X (getD (R .size) r 0) d l e)))
+      ]
+
   -- The list of what uses a code.
   pub users-length : (X : ℕ) → length (users R X) ≡ R .count
   unfolding users
-  users-length X = length-map-counting (user R X) 1 (R .count)
+  users-length X = length-map-counting (userBy R X) 1 (R .count)
 
-  user-at : (X k : ℕ) → k < R .count → getD (users R X) k 0 ≡ user R X (k + 1)
+  user-at : (X k : ℕ) → k < R .count → getD (users R X) k 0 ≡ userBy R X (k + 1)
   unfolding users
-  user-at X k l = getD-map-counting (user R X) 1 (R .count) k (k + 1) 0 l (omega arith)
+  user-at X k l = getD-map-counting (userBy R X) 1 (R .count) k (k + 1) 0 l (omega arith)
 
   pub users-past : (X k : ℕ) → R .count ≤ k → None ≡ nth (users R X) k
   users-past X k h = sym (nth-past (users R X) k (omega (arith, users-length X)))
 
-  users-told : (X k u : ℕ) → k < R .count → user R X (k + 1) ≡ u → Some u ≡ nth (users R X) k
-  users-told X k u l e = sym (nth-getD (users R X) k 0 (omega (arith, users-length X)) ∙ ap Some (user-at X k l ∙ e))
-
-  pub users-yes : (X k : ℕ) → k < R .count → stands R (k + 1) X ≡ true → Some (getD (R .left) (k + 1) 0) ≡ nth (users R X) k
-  unfolding user
-  users-yes X k l h = users-told X k _ l (cond-true _ _ _ h)
-
-  pub users-not : (X k : ℕ) → k < R .count → stands R (k + 1) X ≡ false → Some 88 ≡ nth (users R X) k
-  unfolding user
-  users-not X k l h = users-told X k _ l (cond-false _ _ _ h)
+  pub users-told : (X k u : ℕ) → k < R .count → ((Absent R (k + 1) X → ⊥) → u ≡ getD (R .left) (k + 1) 0) → (Absent R (k + 1) X → u ≡ 88) → Some u ≡ nth (users R X) k
+  users-told X k u l left none =
+      sym (nth-getD (users R X) k 0 (omega (arith, users-length X)) ∙ ap Some (user-at X k l ∙ user-is X (k + 1) u left none))
 
   dot-inside : (r d X : ℕ) → CodeAt (grammarOf R) r d X → d < getD (R .size) r 0
   dot-inside r d X a =
@@ -93,7 +86,6 @@ module _ (R : Rules) where
   -- A rule with the code on its right is a step to its left side, and there is no other step.
   module _ (n : ℕ) (e : n ≡ 88) where
     step-to : (r d X : ℕ) → IsRule (grammarOf R) r → CodeAt (grammarOf R) r d X → Step n (users R) X (leftSide (grammarOf R) r)
-    unfolding user
     step-to r d X i a =
         let high = rule-high R r i in
         let k : r - 1 < R .count = omega (arith, i .low) in
@@ -104,28 +96,29 @@ module _ (R : Rules) where
           inside = omega (arith, left, R .leftsbelow r, R .terminals63, R .nonterminals24);
           nr = r - 1;
           listed = omega (arith, users-length X);
-          there = user-at X (r - 1) k ∙ ap (user R X) z ∙ cond-true (stands R r X) (getD (R .left) r 0) 88 (stands-at r X (getD (R .size) r 0) d (dot-inside r d X a) code) ∙ left;
+          there = user-at X (r - 1) k ∙ ap (userBy R X) z ∙ user-is X r (getD (R .left) r 0) (λ _. refl) (λ none. absurd (none d (dot-inside r d X a) code)) ∙ left;
         }
 
     step-from : (X t : ℕ) → Step n (users R) X t → UsedIn X t
-    unfolding user
+    unfolding userBy
     step-from X t s =
         let r = s .nr + 1 in
         let k : s .nr < R .count = omega (arith, s .listed, users-length X) in
         let i = is-rule R r (omega arith) (omega arith) in
-        let is : user R X r ≡ t = sym (user-at X (s .nr) k) ∙ s .there in
-        elim (cases-bool (stands R r X)) [
+        let test = standsBelow R r X (getD (R .size) r 0) in
+        let is : userBy R X r ≡ t = sym (user-at X (s .nr) k) ∙ s .there in
+        elim (cases-bool test) [
           | inl h ↦
               let w = at-stands r X (getD (R .size) r 0) h in
               record {
                 rule = r;
                 is = i;
-                left = sym (left-is R r i) ∙ sym (cond-true (stands R r X) (getD (R .left) r 0) 88 h) ∙ is;
+                left = sym (left-is R r i) ∙ sym (cond-true test (getD (R .left) r 0) 88 h) ∙ is;
                 dot = w .0;
                 code = of-code (grammarOf R) (valid-rules R) (within-rules R) (R .left) (R .right) (laid-rules R) r (w .0) X (omega (arith, w .1, R .short r)) (omega (arith, w .2, R .inside r (w .0) (omega arith) (w .1))) (w .2);
               }
           | inr h ↦
-              let z : 88 ≡ t = sym (cond-false (stands R r X) (getD (R .left) r 0) 88 h) ∙ is in
+              let z : 88 ≡ t = sym (cond-false test (getD (R .left) r 0) 88 h) ∙ is in
               absurd (omega (arith, s .inside))
         ]
 

@@ -1,11 +1,11 @@
 -- What is gathered along "is used by" from a mark at the start.
 use mathlib.Core.Path.{_≡_, refl, sym, ap, subst, _∙_}
 use mathlib.Core.List.{List}
-use mathlib.Core.Bool.{true, false}
+use mathlib.Core.Bool.{false}
 use mathlib.Core.Logic.{inl, inr}
-use Prim.Native.Nat.{ℕ, _+_}
+use Prim.Native.Nat.{ℕ, zero, suc, _+_}
 use native.Mathlib.Omega.{arith}
-use lib.ListN.{length, getD, set, replicate}
+use lib.ListN.{length, getD, replicate}
 use Rattle.std.proofs.shelf.Lists.{getD-set-same, getD-set-other, getD-past, length-set, length-replicate}
 use Rattle.std.proofs.shelf.Tests.{cases-eq, cases-lt, both-ways}
 use Rattle.grammar.specs.Grammar.{start}
@@ -17,45 +17,47 @@ use Rattle.gather.proofs.Tracing.{marks-reached}
 use Rattle.tables.specs.declared.rules.Rules.{Rules}
 use Rattle.tables.specs.Arrays.{grammarOf}
 use Rattle.tables.specs.UsedBy.{users}
-use Rattle.tables.specs.UsedMarks.{UsedMarks}
-use Rattle.tables.proofs.CodeMarks.{alike}
+use Rattle.tables.specs.UsedMarks.{IsYes, UsedMarks, StartYes}
 use Rattle.tables.proofs.RuleArrays.{terminals-is}
 use Rattle.tables.proofs.UsedBy.{used-reaches, reaches-used, used-below}
+
+-- The same at every place, and past the end.
+alike : {A : Type 0} (x : A) (n X : ℕ) → getD (replicate n x) X x ≡ x
+alike x zero X = refl
+alike x (suc n) zero = refl
+alike x (suc n) (suc X) = alike x n X
 
 module _ (R : Rules) where
   start-is : R .terminals + 1 ≡ start (grammarOf R)
   unfolding start
   start-is = omega (arith, terminals-is R)
 
-  -- The mark m at the start alone.
-  abbrev pub seeds : Mark → List Mark
-  seeds m = set (replicate 88 noMark) (R .terminals + 1) m
+  module _ (seeds : List Mark) (y : StartYes R seeds) where
+    seeds-length : length seeds ≡ 88
+    seeds-length = ap length (y .is) ∙ length-set (replicate 88 noMark) (R .terminals + 1) (y .mark) ∙ length-replicate 88 noMark
 
-  seeds-length : (m : Mark) → length (seeds m) ≡ 88
-  seeds-length m = length-set (replicate 88 noMark) (R .terminals + 1) m ∙ length-replicate 88 noMark
+    one-seed : (X : ℕ) → IsYes seeds X → X ≡ R .terminals + 1
+    one-seed X h =
+        elim (cases-eq X (R .terminals + 1)) [
+          | inl e ↦ e
+          | inr ne ↦ absurd (both-ways false refl (sym (ap marked (alike noMark 88 X)) ∙ ap marked (sym (getD-set-other (replicate 88 noMark) (R .terminals + 1) X (y .mark) noMark ne)) ∙ subst (λ s. IsYes s X) (y .is) h))
+        ]
 
-  one-seed : (m : Mark) (X : ℕ) → marked (getD (seeds m) X noMark) ≡ true → X ≡ R .terminals + 1
-  one-seed m X h =
-      elim (cases-eq X (R .terminals + 1)) [
-        | inl e ↦ e
-        | inr ne ↦ absurd (both-ways false refl (sym (ap marked (alike noMark 88 X)) ∙ ap marked (sym (getD-set-other (replicate 88 noMark) (R .terminals + 1) X m noMark ne)) ∙ h))
-      ]
+    start-seed : IsYes seeds (R .terminals + 1)
+    start-seed =
+        subst (λ s. IsYes s (R .terminals + 1)) (sym (y .is)) (ap marked (getD-set-same (replicate 88 noMark) (R .terminals + 1) (y .mark) noMark (omega (arith, R .terminals63, length-replicate 88 noMark))) ∙ y .yes)
 
-  start-seed : (m : Mark) → marked m ≡ true → marked (getD (seeds m) (R .terminals + 1) noMark) ≡ true
-  start-seed m h =
-      ap marked (getD-set-same (replicate 88 noMark) (R .terminals + 1) m noMark (omega (arith, R .terminals63, length-replicate 88 noMark))) ∙ h
-
-  pub used-marks : (m : Mark) (values : List Mark) → marked m ≡ true → Gathered noMark eitherMark (users R) (seeds m) values → UsedMarks (grammarOf R) values
-  used-marks m values h g =
-      let size = seeds-length m in
-      record {
-        sound = λ X k. elim (cases-lt X (length (seeds m))) [
-          | inl l ↦ let w = marks-reached (users R) (seeds m) values g X l .back k in reaches-used R (length (seeds m)) size (w .reached) (one-seed m (w .place) (w .passes) ∙ start-is)
-          | inr l ↦ absurd (both-ways false refl (sym (ap marked (getD-past values X noMark (omega (arith, g .size)))) ∙ k))
-        ];
-        whole = λ X u. marks-reached (users R) (seeds m) values g X (omega (arith, used-below R u, R .terminals63, R .nonterminals24)) .forth (record {
-          place = R .terminals + 1;
-          reached = subst (λ Y. Reaches (length (seeds m)) (users R) X Y) (sym start-is) (used-reaches R (length (seeds m)) size u);
-          passes = start-seed m h;
-        });
-      }
+    pub used-marks : (values : List Mark) → Gathered noMark eitherMark (users R) seeds values → UsedMarks (grammarOf R) values
+    used-marks values g =
+        let size = seeds-length in
+        record {
+          sound = λ X k. elim (cases-lt X (length seeds)) [
+            | inl l ↦ let w = marks-reached (users R) seeds values g X l .back k in reaches-used R (length seeds) size (w .reached) (one-seed (w .place) (w .passes) ∙ start-is)
+            | inr l ↦ absurd (both-ways false refl (sym (ap marked (getD-past values X noMark (omega (arith, g .size)))) ∙ k))
+          ];
+          whole = λ X u. marks-reached (users R) seeds values g X (omega (arith, used-below R u, R .terminals63, R .nonterminals24)) .forth (record {
+            place = R .terminals + 1;
+            reached = subst (λ Y. Reaches (length seeds) (users R) X Y) (sym start-is) (used-reaches R (length seeds) size u);
+            passes = start-seed;
+          });
+        }

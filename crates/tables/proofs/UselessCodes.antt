@@ -1,38 +1,43 @@
--- A search for the lowest useless nonterminal.
-use mathlib.Core.Path.{_≡_, sym, subst}
+-- The lowest nonterminal that lacks a mark is the lowest useless one.
 use mathlib.Core.Logic.{inl, inr}
-use Prim.Native.Nat.{ℕ, _+_, _≤_, _<_}
+use mathlib.Core.List.{List}
+use mathlib.Core.Bool.{Bool, false}
+use Prim.Native.Nat.{ℕ, _+_, _<_}
 use native.Mathlib.Omega.{arith}
-use Rattle.std.proofs.shelf.Tests.{cases-lt, cases-eq}
-use Rattle.grammar.specs.Grammar.{Grammar, IsNonterminal}
-use Rattle.grammar.specs.Trees.{Productive}
-use Rattle.grammar.specs.Useful.{Used, Useless}
+use lib.ListN.{getD}
+use Rattle.std.specs.Options.{Cases}
+use Rattle.std.specs.declared.option.Option.{Option}
+use Rattle.std.specs.declared.option.Option.the-variants.{Some, None}
+use Rattle.std.proofs.shelf.Tests.{both-ways, cases-bool, cases-lt}
+use Rattle.grammar.specs.Useful.{Useless}
 use Rattle.grammar.specs.Outcome.{LowestUseless}
+use Rattle.gather.specs.declared.mark.Mark.{Mark}
+use Rattle.tables.specs.declared.rules.Rules.{Rules}
+use Rattle.tables.specs.Arrays.{grammarOf}
+use Rattle.tables.specs.ProductiveMarks.{ProductiveMarks}
+use Rattle.tables.specs.UsedMarks.{UsedMarks, BothBelow, LowestUnmarked}
+use Rattle.tables.proofs.RuleArrays.{terminals-is, nonterminals-is}
 
--- The nonterminals below n are of use.
-abbrev pub UsefulBelow : Grammar → ℕ → Type 0
-UsefulBelow G n = (X : ℕ) → IsNonterminal G X → X < n → Productive G X × Used G X
+module _ (R : Rules) (productive : List Bool) (used : List Mark) (p : ProductiveMarks (grammarOf R) productive) (u : UsedMarks (grammarOf R) used) where
+  -- A nonterminal with both marks is of use.
+  not-useless : (n Y : ℕ) → BothBelow R productive used n → Y < n → Useless (grammarOf R) Y → ⊥
+  not-useless n Y b l v =
+      let k = b Y (omega (arith, v .nonterminal .low, terminals-is R)) l in
+      elim (v .fault) [ inl f ↦ f (p .sound Y (k .0)) | inr f ↦ f (u .sound Y (k .1)) ]
 
-module _ (G : Grammar) where
-  pub useful-none : (n : ℕ) → n ≤ G .terminals + 1 → UsefulBelow G n
-  useful-none n h X i l = absurd (omega (arith, i .low))
-
-  pub useful-more : (n : ℕ) → UsefulBelow G n → Productive G n → Used G n → UsefulBelow G (n + 1)
-  useful-more n u p q X i l =
-      elim (cases-eq X n) [
-        | inl e ↦ (subst (λ Y. Productive G Y) (sym e) p, subst (λ Y. Used G Y) (sym e) q)
-        | inr ne ↦ u X i (let d : (X ≡ n → ⊥) = ne in omega arith)
-      ]
-
-  not-both : (X : ℕ) → Productive G X × Used G X → Useless G X → ⊥
-  not-both X p u = elim (u .fault) [ inl f ↦ f (p .0) | inr f ↦ f (p .1) ]
-
-  pub lowest : (X : ℕ) → UsefulBelow G X → Useless G X → LowestUseless G X
-  lowest X u k =
+  lowest : (X : ℕ) → LowestUnmarked R productive used X → LowestUseless (grammarOf R) X
+  lowest X k =
       record {
-        useless = k;
-        lower = λ Y v. elim (cases-lt Y X) [ inl l ↦ absurd (not-both Y (u Y (v .nonterminal) l) v) | inr g ↦ g ];
+        useless = record {
+          nonterminal = record { low = omega (arith, k .low, terminals-is R); high = omega (arith, k .high, terminals-is R, nonterminals-is R) };
+          fault = elim (cases-bool (getD productive X false)) [
+            | inl h ↦ inr (λ v. k .lacks h (u .whole X v))
+            | inr h ↦ inl (λ v. both-ways (getD productive X false) h (p .whole X v))
+          ];
+        };
+        lower = λ Y v. elim (cases-lt Y X) [ inl l ↦ absurd (not-useless X Y (k .lower) l v) | inr g ↦ g ];
       }
 
-  pub all-useful : (n : ℕ) → G .terminals + G .nonterminals < n → UsefulBelow G n → (X : ℕ) → Useless G X → ⊥
-  all-useful n h u X v = not-both X (u X (v .nonterminal) (omega (arith, v .nonterminal .high))) v
+  pub lowest-useless : (r : Option ℕ) → Cases r (BothBelow R productive used (R .terminals + R .nonterminals + 1)) (LowestUnmarked R productive used) → Cases r ((X : ℕ) → Useless (grammarOf R) X → ⊥) (LowestUseless (grammarOf R))
+  lowest-useless None b = λ X v. not-useless (R .terminals + R .nonterminals + 1) X b (omega (arith, v .nonterminal .high, terminals-is R, nonterminals-is R)) v
+  lowest-useless (Some X) k = lowest X k

@@ -1,6 +1,6 @@
 pub mod Arrays
 pub mod CodeMarks
-pub mod MarkedWords
+pub mod DeriveWords
 pub mod NullableMarks
 pub mod ProductiveMarks
 pub mod UsedBy

@@ -1,7 +1,7 @@
 // From a rule sheet to its LALR(1) tables, stage by stage.
 mod closure;
+mod derive_words;
 mod limits;
-mod marked_words;
 mod moves;
 mod nullable;
 mod productive;

@@ -1,7 +1,7 @@
 use mathlib.Core.Path.{_≡_}
-use mathlib.Core.Bool.{false}
-use Rattle.tables.specs.UsedBy.{standsBelow}
+use Prim.Native.Nat.{ℕ, _+_, _*_, _<_}
+use lib.ListN.{getD}
 use Rattle.tables.proofs.useful.stands_in.Given as given
 
 abbrev pub Inv-loop-d : given.InvT-loop-d
-Inv-loop-d l = standsBelow (l .rules) (l .r) (l .code) (l .d) ≡ false
+Inv-loop-d l = (k : ℕ) → k < l .d → getD (l .rules .right) (9 * l .r + k) 0 ≡ l .code → ⊥

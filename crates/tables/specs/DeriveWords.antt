@@ -1,25 +1,25 @@
--- Codes that derive lists of marked words, and the rounds over the rules that find them.
+-- Codes that derive lists of the first words, and the rounds over the rules that find them.
 use mathlib.Core.Path.{_≡_}
 use mathlib.Core.List.{List}
 use mathlib.Core.Bool.{Bool, false}
 use Prim.Native.Nat.{ℕ, _+_, _*_, _≤_, _<_}
 use lib.ListN.{getD}
 use Rattle.std.specs.shelf.Lists.{All}
-use Rattle.grammar.specs.Grammar.{Grammar, IsTerminal}
+use Rattle.grammar.specs.Grammar.{Grammar}
 use Rattle.grammar.specs.Trees.{Tree}
 use Rattle.tables.specs.declared.rules.Rules.{Rules}
-use Rattle.tables.specs.CodeMarks.{Marked}
+use Rattle.tables.specs.CodeMarks.{Marked, MarksOf}
 
--- The code derives a list of words that are all marked.
-pub record DerivesMarked (G : Grammar) (words : List Bool) (X : ℕ) : Type 0 where
-  pub leaves : List ℕ
+-- The code derives a list of words that are at most n.
+pub record DerivesWords (G : Grammar) (n X : ℕ) : Type 0 where
+  pub words : List ℕ
   pub rules : List ℕ
-  pub marked : All (Marked words) leaves
-  pub tree : Tree G X leaves rules
+  pub low : All (λ w. w ≤ n) words
+  pub tree : Tree G X words rules
 
--- Terminals alone are marked.
-abbrev pub TerminalsOnly : Grammar → List Bool → Type 0
-TerminalsOnly G words = (X : ℕ) → Marked words X → IsTerminal G X
+-- The codes from 1 to below n are marked.
+abbrev pub MarksBelow : ℕ → List Bool → Type 0
+MarksBelow n marks = MarksOf (λ X. (1 ≤ X) × (X < n)) marks
 
 -- Every code on the right of the rule is marked.
 abbrev pub RightMarked : Rules → List Bool → ℕ → Type 0
@@ -33,5 +33,5 @@ pub record Lacks (R : Rules) (marks : List Bool) (r : ℕ) : Type 0 where
   pub left : getD marks (getD (R .left) r 0) false ≡ false
 
 -- No rule below n has its right side marked and not its left side.
-abbrev pub Full : Rules → List Bool → ℕ → Type 0
-Full R marks n = (r : ℕ) → 1 ≤ r → r < n → RightMarked R marks r → Marked marks (getD (R .left) r 0)
+abbrev pub NoneLacks : Rules → List Bool → ℕ → Type 0
+NoneLacks R marks n = (r : ℕ) → 1 ≤ r → r < n → RightMarked R marks r → Marked marks (getD (R .left) r 0)
