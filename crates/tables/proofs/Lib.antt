@@ -1,4 +1,8 @@
 pub mod RuleArrays
+pub mod DerivingRounds
+pub mod UsedBy
+pub mod UsedMarks
+pub mod UselessCodes
 pub mod SheetArrays
 pub mod SheetRules
 pub mod TruthLists

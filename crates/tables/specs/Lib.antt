@@ -1,4 +1,10 @@
 pub mod Arrays
+pub mod CodeMarks
+pub mod DeriveWords
+pub mod NullableMarks
+pub mod ProductiveMarks
+pub mod UsedBy
+pub mod UsedMarks
 pub mod Admitted
 pub mod SheetArrays
 pub mod Closing
