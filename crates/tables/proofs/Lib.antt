@@ -1,1 +1,9 @@
 pub mod RuleArrays
+pub mod Answered
+pub mod Gotos
+pub mod WordSets
+pub mod DirectWords
+pub mod Transitions
+pub mod Gathering
+pub mod ReadSteps
+pub mod ReadSets

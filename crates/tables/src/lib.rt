@@ -1,3 +1,7 @@
 // From a rule sheet to its LALR(1) tables, stage by stage.
+mod direct;
+mod goto;
+mod lookahead;
+mod reads;
 mod rules;
 mod states;

@@ -1,0 +1,42 @@
+use mathlib.Core.Path.{sym, ap, _∙_}
+use Rattle.std.specs.declared.option.Option.the-variants.{Some}
+use Rattle.tables.specs.Transitions.{transitionAt}
+use Rattle.tables.proofs.Gotos.{goto-moves}
+use Rattle.tables.proofs.ReadSteps.{next-some, next-past, next-none, few}
+use Rattle.tables.proofs.reads.ReadsRelation.next.Needs as need
+
+pub read-to-requires : need.read-to-requires
+read-to-requires c κs =
+    let R = c .args .self .now .rules .now in
+    let S = c .args .self .now .states .now in
+    (goto-moves R S (transitionAt R (c .args .place) .0) (transitionAt R (c .args .place) .1) (c .in-Some .state) (sym (c .in-Some .ensures tt)) .to, c .if-k-self .taken)
+
+pub returns-then-k-self : need.returns-then-k-self
+returns-then-k-self c =
+    let R = c .args .self .now .rules .now in
+    let S = c .args .self .now .states .now in
+    let null = c .args .self .now .null .now in
+    record {
+      told = ap Some (c .read-to .ensures) ∙ sym (next-some R S null (c .args .place) (c .in-Some .state) (c .args .k) (c .in-Some .ensures tt) (c .if-k-self .taken));
+      short = few R S null (c .args .place);
+    }
+
+pub returns-else-k-self : need.returns-else-k-self
+returns-else-k-self c =
+    let R = c .args .self .now .rules .now in
+    let S = c .args .self .now .states .now in
+    let null = c .args .self .now .null .now in
+    record {
+      told = sym (next-past R S null (c .args .place) (c .in-Some .state) (c .args .k) (c .in-Some .ensures tt) (c .if-k-self .left));
+      short = few R S null (c .args .place);
+    }
+
+pub returns-in-None : need.returns-in-None
+returns-in-None c =
+    let R = c .args .self .now .rules .now in
+    let S = c .args .self .now .states .now in
+    let null = c .args .self .now .null .now in
+    record {
+      told = sym (next-none R S null (c .args .place) (c .args .k) (c .in-None .ensures tt));
+      short = few R S null (c .args .place);
+    }
