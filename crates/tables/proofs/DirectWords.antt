@@ -18,8 +18,9 @@ use Rattle.gather.specs.declared.word_set.WordSet.{WordSet}
 use Rattle.gather.specs.Members.{has, noMembers}
 use Rattle.tables.specs.Transitions.{DirectIn, DirectAt, transitionAt}
 use Rattle.tables.specs.WordSets.{WordsBelow, SetsOf}
-use Rattle.tables.proofs.RuleArrays.{terminals-is, nonterminals-is}
-use Rattle.tables.proofs.Gotos.{has-item, item-has, goto-moves, one-goto}
+use Rattle.tables.proofs.RuleArrays.{terminals-is}
+use Rattle.tables.proofs.Gotos.{has-item, item-has, one-goto}
+use Rattle.tables.proofs.Transitions.{at-place, behind-place}
 use Rattle.tables.proofs.WordSets.{words-none, words-all}
 
 module _ (R : Rules) (S : States) where
@@ -54,27 +55,16 @@ module _ (R : Rules) (S : States) where
   pub direct-word : (s w t : ℕ) → 1 ≤ w → w ≤ R .terminals → some t ≡ A .goto s w → Direct G A s w
   direct-word s w t low high e = next-word (terminal w low high) (sym e)
 
-  -- A place has a transition if its code is a nonterminal and leads on.
-  pub at-place : (i t : ℕ) → some t ≡ A .goto (transitionAt R i .0) (transitionAt R i .1) → Transition G A (transitionAt R i)
-  at-place i t e =
-      let m = goto-moves R S (transitionAt R i .0) (transitionAt R i .1) t (sym e) in
-      record {
-        nonterminal = record { low = omega (arith, terminals-is R); high = omega (arith, m .high, terminals-is R, nonterminals-is R) };
-        to = t;
-        move = sym e;
-      }
-
   pub behind-below : (i w : ℕ) → DirectAt R S i w → w ≤ R .terminals
   behind-below i w d = direct-below (d .is-transition .to) w (d .direct)
 
   -- The words behind a transition are those of the state behind it.
   pub words-behind : (l : List WordSet) (i t : ℕ) → SetsOf (DirectIn R S) (S .count) l → some t ≡ A .goto (transitionAt R i .0) (transitionAt R i .1) → WordsBelow (DirectAt R S i) 64 (getD l t noMembers)
-  unfolding at-place
   words-behind l i t s e =
-      let m = goto-moves R S (transitionAt R i .0) (transitionAt R i .1) t (sym e) in
+      let l = behind-place R S i t e in
       record {
-        sound = λ w h. record { is-transition = at-place i t e; direct = s .sound t w (m .to) h };
-        whole = λ w b d. s .whole t w (m .to) (subst (λ q. Direct G A q w) (one-goto R S (transitionAt R i .0) (transitionAt R i .1) (d .is-transition .move) (sym e)) (d .direct));
+        sound = λ w h. record { is-transition = record { nonterminal = at-place R S i t e .nonterminal; to = t; move = sym e }; direct = s .sound t w l h };
+        whole = λ w b d. s .whole t w l (subst (λ q. Direct G A q w) (one-goto R S (transitionAt R i .0) (transitionAt R i .1) (d .is-transition .move) (sym e)) (d .direct));
       }
 
   pub words-nowhere : (x : WordSet) (i : ℕ) → ((w : ℕ) → has x w ≡ false) → none ≡ A .goto (transitionAt R i .0) (transitionAt R i .1) → WordsBelow (DirectAt R S i) 64 x

@@ -1,9 +1,14 @@
 pub mod RuleArrays
 pub mod Answered
 pub mod Gotos
+pub mod Transitions
 pub mod WordSets
 pub mod DirectWords
-pub mod Transitions
 pub mod Gathering
 pub mod ReadSteps
 pub mod ReadSets
+pub mod Walks
+pub mod RuleCodes
+pub mod NullableEnds
+pub mod IncludeSteps
+pub mod RuleSteps

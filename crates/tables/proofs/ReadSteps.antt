@@ -27,8 +27,7 @@ use Rattle.tables.specs.NullableMarks.{NullableMarks}
 use Rattle.tables.specs.ReadSteps.{leadsOn, readTo, readsBehind, readsFrom}
 use Rattle.tables.specs.Transitions.{transitionAt}
 use Rattle.tables.proofs.Answered.{told-some, told-none}
-use Rattle.tables.proofs.Gotos.{goto-moves}
-use Rattle.tables.proofs.Transitions.{at-number, transition, within}
+use Rattle.tables.proofs.Transitions.{at-number, at-place, transition, within}
 use Rattle.tables.proofs.Gathering.{StepsOf}
 
 module _ (R : Rules) (S : States) (null : List Bool) where
@@ -77,15 +76,15 @@ module _ (R : Rules) (S : States) (null : List Bool) where
   from-at i t k e l =
       ap (λ m. getD m k 0) (from-some i t e) ∙ getD-map-counting (readTo R S null t) 0 (R .nonterminals) k k 0 l (omega arith)
 
-  pub next-some : (i t k : ℕ) → some t ≡ A .goto (transitionAt R i .0) (transitionAt R i .1) → k < R .nonterminals → nth (readsFrom R S null i) k ≡ Some (readTo R S null t k)
-  next-some i t k e l =
-      nth-getD (readsFrom R S null i) k 0 (omega (arith, from-length i t e)) ∙ ap Some (from-at i t k e l)
+  pub next-some : (i t k j : ℕ) → some t ≡ A .goto (transitionAt R i .0) (transitionAt R i .1) → k < R .nonterminals → j ≡ readTo R S null t k → Some j ≡ nth (readsFrom R S null i) k
+  next-some i t k j e l same =
+      sym (nth-getD (readsFrom R S null i) k 0 (omega (arith, from-length i t e)) ∙ ap Some (from-at i t k e l ∙ sym same))
 
-  pub next-past : (i t k : ℕ) → some t ≡ A .goto (transitionAt R i .0) (transitionAt R i .1) → R .nonterminals ≤ k → nth (readsFrom R S null i) k ≡ None
-  next-past i t k e l = nth-past (readsFrom R S null i) k (omega (arith, from-length i t e))
+  pub next-past : (i t k : ℕ) → some t ≡ A .goto (transitionAt R i .0) (transitionAt R i .1) → R .nonterminals ≤ k → None ≡ nth (readsFrom R S null i) k
+  next-past i t k e l = sym (nth-past (readsFrom R S null i) k (omega (arith, from-length i t e)))
 
-  pub next-none : (i k : ℕ) → none ≡ A .goto (transitionAt R i .0) (transitionAt R i .1) → nth (readsFrom R S null i) k ≡ None
-  next-none i k e = nth-past (readsFrom R S null i) k (omega (arith, ap length (from-none i e)))
+  pub next-none : (i k : ℕ) → none ≡ A .goto (transitionAt R i .0) (transitionAt R i .1) → None ≡ nth (readsFrom R S null i) k
+  next-none i k e = sym (nth-past (readsFrom R S null i) k (omega (arith, ap length (from-none i e))))
 
   -- No list is long.
   pub few : (i : ℕ) → length (readsFrom R S null i) < 2 ^ 64
@@ -125,8 +124,8 @@ module _ (R : Rules) (S : States) (null : List Bool) where
         let d = told t k j (s .inside) (sym (from-at i t k e l) ∙ s .there) in
         let at : _≡_ {A = ℕ × ℕ} (t, code k) (transitionAt R j) = sym (at-number R t k (omega (arith, R .nonterminals24))) ∙ ap (transitionAt R) (d .place) in
         record {
-          from = transition R S (transitionAt R i .0) (transitionAt R i .1) t (omega arith) (sym e);
-          to = subst (λ x. Transition G A x) at (transition R S t (code k) (d .to) (omega arith) (d .leads));
+          from = at-place R S i t e;
+          to = subst (λ x. Transition G A x) at (transition R S t (code k) (d .to) (omega arith) (sym (d .leads)));
           move = sym e ∙ ap some (ap (λ (x : ℕ × ℕ). x .0) at);
           nullable = N .sound (transitionAt R j .1) (subst (λ X. getD null X false ≡ true) (ap (λ (x : ℕ × ℕ). x .1) at) (d .marked));
         }

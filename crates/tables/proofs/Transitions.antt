@@ -53,21 +53,31 @@ module _ (R : Rules) (S : States) where
       let m = goto-moves R S (x .0) (x .1) (t .to) (t .move) in
       record { state = m .from; low = omega (arith, t .nonterminal .low, terminals-is R); high = m .high }
 
+  pub inside : (x : ℕ × ℕ) → Transition G A x → placeOf R (x .0) (x .1) < 2304
+  inside x t = let w = within x t in place-below R (x .0) (x .1) (omega (arith, w .state, S .few)) (w .high)
+
   pub place : (x : ℕ × ℕ) → Transition G A x → Place R x
   place x t =
       let w = within x t in
       record {
         place = placeOf R (x .0) (x .1);
-        inside = place-below R (x .0) (x .1) (omega (arith, w .state, S .few)) (w .high);
+        inside = inside x t;
         is = at-place-of R (x .0) (x .1) (w .low) (w .high);
       }
 
   -- A move by a nonterminal is a transition.
-  pub transition : (p X t : ℕ) → R .terminals < X → A .goto p X ≡ some t → Transition G A (p, X)
+  pub transition : (p X t : ℕ) → R .terminals < X → some t ≡ A .goto p X → Transition G A (p, X)
   transition p X t low e =
-      let m = goto-moves R S p X t e in
+      let m = goto-moves R S p X t (sym e) in
       record {
         nonterminal = record { low = omega (arith, terminals-is R); high = omega (arith, m .high, terminals-is R, nonterminals-is R) };
         to = t;
-        move = e;
+        move = sym e;
       }
+
+  -- A place that leads on.
+  pub at-place : (i t : ℕ) → some t ≡ A .goto (transitionAt R i .0) (transitionAt R i .1) → Transition G A (transitionAt R i)
+  at-place i t e = transition (transitionAt R i .0) (transitionAt R i .1) t (omega arith) e
+
+  pub behind-place : (i t : ℕ) → some t ≡ A .goto (transitionAt R i .0) (transitionAt R i .1) → t < S .count
+  behind-place i t e = goto-moves R S (transitionAt R i .0) (transitionAt R i .1) t (sym e) .to

@@ -5,3 +5,4 @@ pub mod Answers
 pub mod Transitions
 pub mod WordSets
 pub mod ReadSteps
+pub mod IncludeSteps

@@ -1,7 +1,9 @@
 // From a rule sheet to its LALR(1) tables, stage by stage.
 mod direct;
 mod goto;
+mod includes;
 mod lookahead;
 mod reads;
 mod rules;
 mod states;
+mod steps;

@@ -1,18 +1,13 @@
 use native.Mathlib.Omega.{arith}
-use Rattle.tables.specs.Transitions.{transitionAt}
-use Rattle.tables.proofs.Gotos.{Moves, goto-moves}
-use mathlib.Core.Path.{sym}
+use Rattle.tables.proofs.Transitions.{behind-place}
 use Rattle.tables.proofs.DirectWords.{words-behind, words-nowhere}
 use Rattle.tables.proofs.direct.direct_behind.Needs as need
 
-moved : (c : need.In-Some) → Moves (c .args .rules .now) (c .args .states .now) (transitionAt (c .args .rules .now) (c .args .place) .0) (transitionAt (c .args .rules .now) (c .args .place) .1) (c .in-Some .state)
-moved c = goto-moves (c .args .rules .now) (c .args .states .now) _ _ (c .in-Some .state) (sym (c .in-Some .ensures tt))
-
 pub offset-direct-state : need.offset-direct-state
-offset-direct-state c = omega (arith, moved c .to, c .args .states .now .few)
+offset-direct-state c = omega (arith, behind-place (c .args .rules .now) (c .args .states .now) (c .args .place) (c .in-Some .state) (c .in-Some .ensures tt), c .args .states .now .few)
 
 pub index-direct-state : need.index-direct-state
-index-direct-state c = omega (arith, moved c .to, c .args .states .now .few)
+index-direct-state c = omega (arith, behind-place (c .args .rules .now) (c .args .states .now) (c .args .place) (c .in-Some .state) (c .in-Some .ensures tt), c .args .states .now .few)
 
 pub returns-in-Some : need.returns-in-Some
 returns-in-Some c = words-behind (c .args .rules .now) (c .args .states .now) (c .args .direct .now) (c .args .place) (c .in-Some .state) (c .pre) (c .in-Some .ensures tt)

@@ -1,7 +1,4 @@
-use mathlib.Core.Path.{sym, ap, _∙_}
-use Rattle.std.specs.declared.option.Option.the-variants.{Some}
-use Rattle.tables.specs.Transitions.{transitionAt}
-use Rattle.tables.proofs.Gotos.{goto-moves}
+use Rattle.tables.proofs.Transitions.{behind-place}
 use Rattle.tables.proofs.ReadSteps.{next-some, next-past, next-none, few}
 use Rattle.tables.proofs.reads.ReadsRelation.next.Needs as need
 
@@ -9,7 +6,7 @@ pub read-to-requires : need.read-to-requires
 read-to-requires c κs =
     let R = c .args .self .now .rules .now in
     let S = c .args .self .now .states .now in
-    (goto-moves R S (transitionAt R (c .args .place) .0) (transitionAt R (c .args .place) .1) (c .in-Some .state) (sym (c .in-Some .ensures tt)) .to, c .if-k-self .taken)
+    (behind-place R S (c .args .place) (c .in-Some .state) (c .in-Some .ensures tt), c .if-k-self .taken)
 
 pub returns-then-k-self : need.returns-then-k-self
 returns-then-k-self c =
@@ -17,7 +14,7 @@ returns-then-k-self c =
     let S = c .args .self .now .states .now in
     let null = c .args .self .now .null .now in
     record {
-      told = ap Some (c .read-to .ensures) ∙ sym (next-some R S null (c .args .place) (c .in-Some .state) (c .args .k) (c .in-Some .ensures tt) (c .if-k-self .taken));
+      told = next-some R S null (c .args .place) (c .in-Some .state) (c .args .k) (c .read-to .result) (c .in-Some .ensures tt) (c .if-k-self .taken) (c .read-to .ensures);
       short = few R S null (c .args .place);
     }
 
@@ -27,7 +24,7 @@ returns-else-k-self c =
     let S = c .args .self .now .states .now in
     let null = c .args .self .now .null .now in
     record {
-      told = sym (next-past R S null (c .args .place) (c .in-Some .state) (c .args .k) (c .in-Some .ensures tt) (c .if-k-self .left));
+      told = next-past R S null (c .args .place) (c .in-Some .state) (c .args .k) (c .in-Some .ensures tt) (c .if-k-self .left);
       short = few R S null (c .args .place);
     }
 
@@ -37,6 +34,6 @@ returns-in-None c =
     let S = c .args .self .now .states .now in
     let null = c .args .self .now .null .now in
     record {
-      told = sym (next-none R S null (c .args .place) (c .args .k) (c .in-None .ensures tt));
+      told = next-none R S null (c .args .place) (c .args .k) (c .in-None .ensures tt);
       short = few R S null (c .args .place);
     }
