@@ -12,3 +12,8 @@ pub mod RuleCodes
 pub mod NullableEnds
 pub mod IncludeSteps
 pub mod RuleSteps
+pub mod Counting
+pub mod Spots
+pub mod GroupLoops
+pub mod Groups
+pub mod FollowSets

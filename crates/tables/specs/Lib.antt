@@ -6,3 +6,4 @@ pub mod Transitions
 pub mod WordSets
 pub mod ReadSteps
 pub mod IncludeSteps
+pub mod Groups

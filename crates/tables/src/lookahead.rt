@@ -1,9 +1,12 @@
 // The lookahead of each rule in each state.
 ghost use Rattle.tables.specs.Arrays.{grammarOf};
 ghost use Rattle.tables.specs.NullableMarks.{NullableMarks};
-ghost use Rattle.tables.specs.Transitions.{ReadAt};
+ghost use Rattle.tables.specs.Transitions.{FollowAt, ReadAt};
 ghost use Rattle.tables.specs.WordSets.{SetsOf};
 use super::direct::direct_by_place;
+use super::grouping::GroupedRelation;
+use super::grouping::grouped;
+use super::includes::include_steps;
 use super::reads::Reads;
 use super::reads::ReadsRelation;
 use super::rules::Rules;
@@ -13,7 +16,7 @@ use gather::WordSetJoin;
 use gather::gather;
 
 // The read sets of all transitions, by place.
-pub fn read_sets(rules: &Rules, states: &States, null: &[bool; 88]) -> [WordSet; 2304]
+fn read_sets(rules: &Rules, states: &States, null: &[bool; 88]) -> [WordSet; 2304]
     requires { ⌜ NullableMarks (grammarOf (now rules)) (now null) ⌝ }
     ensures { λ r. ⌜ SetsOf (ReadAt (now (rules .entry)) (now (states .entry))) 2304 r ⌝ }
 {
@@ -24,5 +27,17 @@ pub fn read_sets(rules: &Rules, states: &States, null: &[bool; 88]) -> [WordSet;
         null,
     };
     let _told = gather(&mut sets, &relation);
+    sets
+}
+
+// The follow sets of all transitions, by place.
+fn follow_sets(rules: &Rules, states: &States, null: &[bool; 88]) -> [WordSet; 2304]
+    requires { ⌜ NullableMarks (grammarOf (now rules)) (now null) ⌝ }
+    ensures { λ r. ⌜ SetsOf (FollowAt (now (rules .entry)) (now (states .entry))) 2304 r ⌝ }
+{
+    let mut sets = read_sets(rules, states, null);
+    let steps = include_steps(rules, states, null);
+    let includes = grouped(&steps);
+    let _told = gather(&mut sets, &includes);
     sets
 }
