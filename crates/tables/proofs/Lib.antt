@@ -10,6 +10,7 @@ pub mod ReadSets
 pub mod Walks
 pub mod RuleCodes
 pub mod NullableEnds
+pub mod RuleWalks
 pub mod IncludeSteps
 pub mod RuleSteps
 pub mod Counting
@@ -17,3 +18,4 @@ pub mod Spots
 pub mod GroupLoops
 pub mod Groups
 pub mod FollowSets
+pub mod Lookaheads

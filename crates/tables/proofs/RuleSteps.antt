@@ -3,7 +3,6 @@ use mathlib.Core.Path.{_≡_, refl, sym, ap, subst, _∙_}
 use mathlib.Core.Logic.{inl, inr}
 use mathlib.Core.Option.{some, none, Option·none-ne-some}
 use Prim.Native.Nat.{ℕ, suc, _+_, _-_, _*_, _≤_, _<_}
-use native.Mathlib.Numerals.{add-one}
 use native.Mathlib.Omega.{arith}
 use lib.ListN.{getD, take, drop}
 use Rattle.grammar.specs.Grammar.{Grammar, IsRule, leftSide, rightSide}
@@ -21,8 +20,9 @@ use Rattle.tables.specs.IncludeSteps.{NullableFrom, IncludesBy, Pushed, order,
 use Rattle.tables.proofs.RuleArrays.{is-rule, left-is, terminals-is}
 use Rattle.tables.proofs.RuleCodes.{code-there}
 use Rattle.tables.proofs.Transitions.{transition}
-use Rattle.tables.proofs.Walks.{leads-on, further}
-use Rattle.tables.proofs.IncludeSteps.{bounds, jump, push}
+use Rattle.tables.proofs.RuleWalks.{walk-stops}
+use Rattle.tables.proofs.Walks.{leads-on}
+use Rattle.tables.proofs.IncludeSteps.{bounds, jump}
 
 module _ (R : Rules) (S : States) (q r : ℕ) (low : 1 ≤ r) (high : r ≤ R .count) where
   abbrev G : Grammar
@@ -82,13 +82,7 @@ module _ (R : Rules) (S : States) (q r : ℕ) (low : 1 ≤ r) (high : r ≤ R .c
   stopped d p s h w e f =
       skip d (order q (r + 1) 0) s (omega (arith, R .short r)) (omega arith) (λ d′ x y l v b.
       let whole : Leads A q (take (suc d′) (rightSide G r)) (b .from .to) = leads-on (rightSide G r) d′ (b .code) (b .leads) (b .from .move) in
-      let t = further (rightSide G r) d (suc d′) (omega arith) (code-there R r d high h) w whole in
-      Option·none-ne-some _ (e ∙ t .move)) f
-
-  -- A code on.
-  pub walk-on : (d p t : ℕ) → d < size → Leads A q (take d (rightSide G r)) p → some t ≡ A .goto p (code d) → Leads A q (take (d + 1) (rightSide G r)) t
-  walk-on d p t h w e =
-      subst (λ n. Leads A q (take n (rightSide G r)) t) (sym (add-one d)) (leads-on (rightSide G r) d (code-there R r d high h) w (sym e))
+      walk-stops R S q r high d (suc d′) p (b .from .to) h w e (omega arith) whole) f
 
   module _ (e : ℕ) (E : NullableFrom G r e) where
     -- A code that is no nonterminal, or that has something not nullable behind it, gives no step.

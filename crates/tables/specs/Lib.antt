@@ -7,3 +7,4 @@ pub mod WordSets
 pub mod ReadSteps
 pub mod IncludeSteps
 pub mod Groups
+pub mod Lookaheads

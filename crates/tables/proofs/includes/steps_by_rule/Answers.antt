@@ -6,7 +6,8 @@ use Rattle.grammar.specs.Lookahead.{here}
 use Rattle.tables.specs.IncludeSteps.{StepsUpto, order}
 use Rattle.tables.proofs.Transitions.{within, inside, transition}
 use Rattle.tables.proofs.IncludeSteps.{push}
-use Rattle.tables.proofs.RuleSteps.{ended, stopped, walk-on, passed, found}
+use Rattle.tables.proofs.RuleSteps.{ended, stopped, passed, found}
+use Rattle.tables.proofs.RuleWalks.{walk-on}
 use Rattle.tables.proofs.includes.steps_by_rule.Needs as need
 use Rattle.tables.proofs.includes.steps_by_rule.Needs.{then-end-dot·then-terminals-code, else-end-dot, else-end-dot·by·then-end-dot·else-terminals-code, else-end-dot·by·else-end-dot}
 
@@ -67,7 +68,7 @@ loop-dot-again c =
     let r = c .args .rule in
     let d = c .loop-dot .dot in
     let s = c .loop-dot .steps in (
-      walk-on R S q r (c .pre .rule .0) (c .pre .rule .1) d (c .loop-dot .from) (c .in-Some .next) (c .loop-dot-test .taken) (c .loop-dot .inv .0) (c .in-Some .ensures tt),
+      walk-on R S q r (c .pre .rule .1) d (c .loop-dot .from) (c .in-Some .next) (c .loop-dot-test .taken) (c .loop-dot .inv .0) (c .in-Some .ensures tt),
       elim (c .if-end-dot .came) [
         | then-end-dot·then-terminals-code w ↦
             subst (λ t. StepsUpto R S (order q r (d + 1)) t) (sym (w .steps-is))
