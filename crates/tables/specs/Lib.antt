@@ -10,3 +10,10 @@ pub mod SheetArrays
 pub mod Closing
 pub mod Fingerprints
 pub mod Rows
+pub mod Answers
+pub mod Transitions
+pub mod WordSets
+pub mod ReadSteps
+pub mod IncludeSteps
+pub mod Groups
+pub mod Lookaheads
