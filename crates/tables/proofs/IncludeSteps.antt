@@ -5,7 +5,7 @@ use mathlib.Core.Logic.{_⊎_, inl, inr}
 use mathlib.Core.Option.{some}
 use Prim.Native.Nat.{ℕ, zero, suc, _+_, _-_, _*_, _≤_, _<_}
 use native.Mathlib.Omega.{arith}
-use lib.ListN.{length, getD, take, drop, getElem?}
+use lib.ListN.{length, getD, take, drop, getElem?, take-append-drop}
 use Rattle.std.proofs.shelf.Lists.{take-at, drop-at}
 use Rattle.std.proofs.shelf.Tests.{cases-lt, cases-eq}
 use Rattle.grammar.specs.Grammar.{Grammar, leftSide, rightSide}
@@ -14,7 +14,7 @@ use Rattle.grammar.specs.States.{Automaton}
 use Rattle.grammar.specs.Trees.{AllNullable}
 use Rattle.grammar.specs.Lookahead.{Leads, Transition, Includes}
 use Rattle.grammar.proofs.Dots.{one-target}
-use Rattle.grammar.proofs.ListParts.{getElem-append, drop-suc, split-at-code}
+use Rattle.grammar.proofs.ListParts.{getElem-append, drop-suc, drop-at-code}
 use Rattle.tables.specs.declared.rules.Rules.{Rules}
 use Rattle.tables.specs.declared.states.States.{States}
 use Rattle.tables.specs.declared.steps.Steps.{Steps}
@@ -25,6 +25,10 @@ use Rattle.tables.proofs.RuleArrays.{rule-high}
 use Rattle.tables.proofs.RuleCodes.{dot-inside}
 use Rattle.tables.proofs.Transitions.{at-place-of, within}
 use Rattle.tables.proofs.Walks.{leads-once}
+
+-- A list, parted at a code.
+split-at-code : (l : List ℕ) (d X : ℕ) → getElem? l d ≡ some X → l ≡ take d l ++ X ∷ drop (suc d) l
+split-at-code l d X e = sym (take-append-drop d l) ∙ ap (λ m. take d l ++ m) (drop-at-code l d X e)
 
 module _ (R : Rules) (S : States) where
   abbrev G : Grammar

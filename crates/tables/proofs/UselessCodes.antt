@@ -9,11 +9,14 @@ use Rattle.std.specs.Options.{Cases}
 use Rattle.std.specs.declared.option.Option.{Option}
 use Rattle.std.specs.declared.option.Option.the-variants.{Some, None}
 use Rattle.std.proofs.shelf.Tests.{both-ways, cases-bool, cases-lt}
-use Rattle.grammar.specs.Useful.{Useless}
+use Rattle.grammar.specs.Grammar.{IsNonterminal}
+use Rattle.grammar.specs.Trees.{Productive}
+use Rattle.grammar.specs.Useful.{Useless, Used}
 use Rattle.grammar.specs.Outcome.{LowestUseless}
 use Rattle.gather.specs.declared.mark.Mark.{Mark}
 use Rattle.tables.specs.declared.rules.Rules.{Rules}
 use Rattle.tables.specs.Arrays.{grammarOf}
+use Rattle.tables.specs.AllUseful.{AllUseful}
 use Rattle.tables.specs.ProductiveMarks.{ProductiveMarks}
 use Rattle.tables.specs.UsedMarks.{UsedMarks, BothBelow, LowestUnmarked}
 use Rattle.tables.proofs.RuleArrays.{terminals-is, nonterminals-is}
@@ -38,6 +41,12 @@ module _ (R : Rules) (productive : List Bool) (used : List Mark) (p : Productive
         lower = λ Y v. elim (cases-lt Y X) [ inl l ↦ absurd (not-useless X Y (k .lower) l v) | inr g ↦ g ];
       }
 
-  pub lowest-useless : (r : Option ℕ) → Cases r (BothBelow R productive used (R .terminals + R .nonterminals + 1)) (LowestUnmarked R productive used) → Cases r ((X : ℕ) → Useless (grammarOf R) X → ⊥) (LowestUseless (grammarOf R))
-  lowest-useless None b = λ X v. not-useless (R .terminals + R .nonterminals + 1) X b (omega (arith, v .nonterminal .high, terminals-is R, nonterminals-is R)) v
+  -- With both marks everywhere, every nonterminal is of use.
+  both-marks : BothBelow R productive used (R .terminals + R .nonterminals + 1) → (X : ℕ) → IsNonterminal (grammarOf R) X → Productive (grammarOf R) X × Used (grammarOf R) X
+  both-marks b X i =
+      let k = b X (omega (arith, i .low, terminals-is R)) (omega (arith, i .high, terminals-is R, nonterminals-is R)) in
+      (p .sound X (k .0), u .sound X (k .1))
+
+  pub lowest-useless : (r : Option ℕ) → Cases r (BothBelow R productive used (R .terminals + R .nonterminals + 1)) (LowestUnmarked R productive used) → Cases r (AllUseful (grammarOf R)) (LowestUseless (grammarOf R))
+  lowest-useless None b = record { productive = λ X i. both-marks b X i .0; used = λ X i. both-marks b X i .1 }
   lowest-useless (Some X) k = lowest X k

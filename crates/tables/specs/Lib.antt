@@ -9,7 +9,7 @@ pub mod Admitted
 pub mod SheetArrays
 pub mod Closing
 pub mod Fingerprints
-pub mod Rows
+pub mod EntryRows
 pub mod Answers
 pub mod Transitions
 pub mod WordSets
@@ -17,3 +17,4 @@ pub mod ReadSteps
 pub mod IncludeSteps
 pub mod Groups
 pub mod Lookaheads
+pub mod AllUseful

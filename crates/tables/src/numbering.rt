@@ -5,7 +5,7 @@ ghost use Rattle.grammar.specs.States.{Crowded, Numbered};
 ghost use Rattle.tables.specs.Arrays.{automaton, grammarOf};
 ghost use Rattle.tables.specs.Closing.{Waiting};
 ghost use Rattle.tables.specs.Fingerprints.{Printed};
-ghost use Rattle.tables.specs.Rows.{InRow};
+ghost use Rattle.tables.specs.EntryRows.{InRow};
 ghost use lib.ListN.{set};
 ghost use mathlib.Core.Bool.{false, true};
 ghost use mathlib.Core.Path.{_≡_};

@@ -1,8 +1,8 @@
 // Nonterminals that are of use: they derive words, and the start uses them.
 ghost use Prim.Native.Nat.{ℕ, _+_, _≤_};
 ghost use Rattle.grammar.specs.Outcome.{LowestUseless};
-ghost use Rattle.grammar.specs.Useful.{Useless};
 ghost use Rattle.std.specs.Options.{Cases};
+ghost use Rattle.tables.specs.AllUseful.{AllUseful};
 ghost use Rattle.tables.specs.Arrays.{grammarOf};
 ghost use Rattle.tables.specs.UsedBy.{Absent, users};
 ghost use Rattle.tables.specs.UsedMarks.{BothBelow, LowestUnmarked, StartYes, UsedMarks};
@@ -93,7 +93,7 @@ fn lowest_unmarked(rules: &Rules, productive: &[bool; 88], used: &[Mark; 88]) ->
 
 // The lowest nonterminal that derives no list of words, or that the start does not use.
 pub fn useless(rules: &Rules) -> Option<u8>
-    ensures { λ r. ⌜ Cases r ((X : ℕ) → Useless (grammarOf (now (rules .entry))) X → ⊥) (λ X. LowestUseless (grammarOf (now (rules .entry))) X) ⌝ }
+    ensures { λ r. ⌜ Cases r (AllUseful (grammarOf (now (rules .entry)))) (λ X. LowestUseless (grammarOf (now (rules .entry))) X) ⌝ }
 {
     lowest_unmarked(rules, &productive(rules), &used(rules))
 }

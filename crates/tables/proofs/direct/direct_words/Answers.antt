@@ -22,7 +22,7 @@ loop-word-again c =
       | then-is-some v ↦
           (let t = told-some (c .goto .result) (automaton R S .goto s w) (c .goto .ensures) (v .if-is-some .ensures tt) in
           subst (λ x. WordsBelow (DirectIn R S s) (w + 1) x) (sym (v .words-is))
-          (words-more (DirectIn R S s) w (c .loop-word .words) (v .union-words .result) (λ k. v .union-words .ensures k ∙ ap (λ b. has (c .loop-word .words) k || b) (v .one .ensures k)) (omega (arith, c .loop-word-test .taken, R .terminals63)) (direct-word R S s w (t .0) (omega (arith, c .loop-word .kept .word)) (omega (arith, c .loop-word-test .taken)) (t .1)) (c .loop-word .inv)))
+          (words-more (DirectIn R S s) w (c .loop-word .words) (v .union-words .result) (λ k. v .union-words .ensures .members k ∙ ap (λ b. has (c .loop-word .words) k || b) (v .one .ensures k)) (omega (arith, c .loop-word-test .taken, R .terminals63)) (direct-word R S s w (t .0) (omega (arith, c .loop-word .kept .word)) (omega (arith, c .loop-word-test .taken)) (t .1)) (c .loop-word .inv)))
       | else-is-some v ↦
           subst (λ x. WordsBelow (DirectIn R S s) (w + 1) x) (sym (v .words-is))
           (words-skip (DirectIn R S s) w (c .loop-word .words) (no-direct-word R S s w (omega (arith, c .loop-word .kept .word)) (told-none (c .goto .result) (automaton R S .goto s w) (c .goto .ensures) (v .if-is-some .ensures tt))) (c .loop-word .inv))

@@ -1,4 +1,4 @@
-use Rattle.tables.specs.Rows.{InRow}
+use Rattle.tables.specs.EntryRows.{InRow}
 use Rattle.tables.proofs.numbering.row.Given as given
 
 abbrev pub Inv-loop-code : given.InvT-loop-code
