@@ -8,3 +8,6 @@ pub mod ReadSteps
 pub mod IncludeSteps
 pub mod Groups
 pub mod Lookaheads
+pub mod Rows
+pub mod RowMeaning
+pub mod Cells
