@@ -62,6 +62,9 @@ module _ (R : Rules) (S : States) where
         | inr b ↦ absurd (Option·none-ne-some _ (sym (cond-false (test s X) (some (entry s X)) none b) ∙ e))
       ]
 
+  pub goto-target : (s X t : ℕ) → some t ≡ automaton R S .goto s X → t < n
+  goto-target s X t e = goto-moves s X t (sym e) .to
+
   pub goto-some : (s X : ℕ) → s < n → 1 ≤ X → X ≤ R .terminals + R .nonterminals → entry s X < n → some (entry s X) ≡ automaton R S .goto s X
   unfolding leadsAt
   goto-some s X l low high b =

@@ -30,3 +30,8 @@ pub mod GroupLoops
 pub mod Groups
 pub mod FollowSets
 pub mod Lookaheads
+pub mod ReducedRows
+pub mod HeldActions
+pub mod FilledRows
+pub mod FilledStates
+pub mod FilledCells

@@ -18,3 +18,6 @@ pub mod IncludeSteps
 pub mod Groups
 pub mod Lookaheads
 pub mod AllUseful
+pub mod Rows
+pub mod RowMeaning
+pub mod Cells

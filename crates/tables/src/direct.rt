@@ -2,30 +2,23 @@
 ghost use Prim.Native.Nat.{_<_};
 ghost use Rattle.tables.specs.Transitions.{DirectAt, DirectIn};
 ghost use Rattle.tables.specs.WordSets.{SetsOf, WordsBelow};
+use super::goto::at_end;
 use super::goto::behind;
 use super::goto::goto;
 use super::rules::Rules;
 use super::states::States;
 use gather::WordSet;
 
-// The end mark alone, where the state has rule 0 with its dot before it.
-fn end_mark(rules: &Rules, states: &States, state: usize) -> WordSet
-    requires { ⌜ state < now states .count ⌝ }
-    ensures { λ r. ⌜ WordsBelow (DirectIn (now (rules .entry)) (now (states .entry)) state) 1 r ⌝ }
-{
-    if states.sets[state][1] {
-        WordSet::one(0)
-    } else {
-        WordSet::empty()
-    }
-}
-
 // The words by which a state moves, and the end mark where rule 0 has its dot before it.
 fn direct_words(rules: &Rules, states: &States, state: usize) -> WordSet
     requires { ⌜ state < now states .count ⌝ }
     ensures { λ r. ⌜ WordsBelow (DirectIn (now (rules .entry)) (now (states .entry)) state) 64 r ⌝ }
 {
-    let mut words = end_mark(rules, states, state);
+    let mut words = if at_end(states, state) {
+        WordSet::one(0)
+    } else {
+        WordSet::empty()
+    };
     for word in 1..rules.terminals as usize + 1 {
         if goto(rules, states, state, word).is_some() {
             words = words.union(WordSet::one(word));

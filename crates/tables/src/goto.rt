@@ -1,7 +1,11 @@
 // Where the states lead.
+ghost use Prim.Native.Nat.{_<_};
+ghost use Rattle.grammar.specs.StateLists.{stateAt};
 ghost use Rattle.tables.specs.Answers.{asOption};
 ghost use Rattle.tables.specs.Arrays.{automaton};
 ghost use Rattle.tables.specs.Transitions.{transitionAt};
+ghost use lib.ListN.{getD};
+ghost use mathlib.Core.Bool.{false};
 ghost use mathlib.Core.Path.{_≡_};
 use super::rules::Rules;
 use super::states::States;
@@ -20,6 +24,14 @@ pub fn goto(rules: &Rules, states: &States, state: usize, code: usize) -> Option
     } else {
         None
     }
+}
+
+// Whether a state has rule 0 with its dot before the end mark.
+pub fn at_end(states: &States, state: usize) -> bool
+    requires { ⌜ state < now states .count ⌝ }
+    ensures { λ r. ⌜ r ≡ getD (stateAt (now (states .entry) .sets) state) 1 false ⌝ }
+{
+    states.sets[state][1]
 }
 
 // The state behind the transition at a place.

@@ -7,10 +7,10 @@ use Rattle.tables.specs.Arrays.{automaton}
 use Rattle.tables.specs.Transitions.{DirectIn}
 use Rattle.tables.specs.WordSets.{WordsBelow}
 use Rattle.tables.proofs.Answered.{told-some, told-none}
-use Rattle.tables.proofs.WordSets.{words-more, words-skip, words-all}
-use Rattle.tables.proofs.DirectWords.{direct-word, no-direct-word, direct-below}
+use Rattle.tables.proofs.WordSets.{words-one, words-none, words-more, words-skip, words-all}
+use Rattle.tables.proofs.DirectWords.{direct-end, no-direct-end, direct-word, no-direct-word, direct-below}
 use Rattle.tables.proofs.direct.direct_words.Needs as need
-use Rattle.tables.proofs.direct.direct_words.Needs.{then-is-some, else-is-some}
+use Rattle.tables.proofs.direct.direct_words.Needs.{then-at-end, else-at-end, then-is-some, else-is-some}
 
 pub loop-word-again : need.loop-word-again
 loop-word-again c =
@@ -33,3 +33,15 @@ returns c =
     let R = c .args .rules .now in
     let S = c .args .states .now in
     words-all (DirectIn R S (c .args .state)) (c .loop-word .word) 64 (c .loop-word .words) (λ w d. omega (arith, direct-below R S (c .args .state) w d, c .loop-word-test .left)) (c .loop-word .inv)
+
+pub loop-word-holds : need.loop-word-holds
+loop-word-holds c =
+    let R = c .args .rules .now in
+    let S = c .args .states .now in
+    let s = c .args .state in
+    elim (c .if-at-end .came) [
+      | then-at-end v ↦ subst (λ x. WordsBelow (DirectIn R S s) 1 x) (sym (v .words-is)) (words-one (DirectIn R S s) (v .one-words .result) (v .one-words .ensures) (direct-end R S s (c .pre) (sym (v .if-at-end .ensures tt))))
+      | else-at-end v ↦
+          subst (λ x. WordsBelow (DirectIn R S s) 1 x) (sym (v .words-is))
+          (words-skip (DirectIn R S s) 0 (v .empty-words .result) (no-direct-end R S s (sym (v .if-at-end .ensures tt))) (words-none (DirectIn R S s) (v .empty-words .result) (v .empty-words .ensures)))
+    ]
