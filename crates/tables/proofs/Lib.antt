@@ -35,3 +35,4 @@ pub mod HeldActions
 pub mod FilledRows
 pub mod FilledStates
 pub mod FilledCells
+pub mod Outcomes

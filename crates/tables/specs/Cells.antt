@@ -12,7 +12,7 @@ use Rattle.std.specs.declared.result.Result.the-variants.{Ok, Err}
 use Rattle.grammar.specs.Cells.{Holds, FirstConflict, Exact}
 use Rattle.grammar.specs.declared.action.Action.{Action}
 use Rattle.grammar.specs.declared.refusal.Refusal.{Refusal}
-use Rattle.grammar.specs.declared.refusal.Refusal.the-variants.{Layout, Form, Limits, Range, Useless, States as TooManyStates, Conflict}
+use Rattle.grammar.specs.declared.refusal.Refusal.the-variants.{Layout, Form, Limits, Range, Useless, States as TooManyStates, Conflict, Blank, NoDesigner, Status, FullLine, NoWord, Reductions, NoAction, FullBook}
 use Rattle.tables.specs.declared.rules.Rules.{Rules}
 use Rattle.tables.specs.declared.states.States.{States}
 use Rattle.tables.specs.Answers.{asOption}
@@ -36,6 +36,14 @@ Conflicting R S Limits = ⊥
 Conflicting R S (Range r) = ⊥
 Conflicting R S (Useless X) = ⊥
 Conflicting R S TooManyStates = ⊥
+Conflicting R S Blank = ⊥
+Conflicting R S NoDesigner = ⊥
+Conflicting R S Status = ⊥
+Conflicting R S FullLine = ⊥
+Conflicting R S NoWord = ⊥
+Conflicting R S Reductions = ⊥
+Conflicting R S NoAction = ⊥
+Conflicting R S FullBook = ⊥
 Conflicting R S (Conflict s w a b) = FirstConflict (grammarOf R) (automaton R S) s w a b
 
 -- Filling gives the exact cells, or tells the first conflict.

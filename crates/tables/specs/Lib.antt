@@ -21,3 +21,7 @@ pub mod AllUseful
 pub mod Rows
 pub mod RowMeaning
 pub mod Cells
+pub mod Held
+pub mod Building
+pub mod Numbering
+pub mod HeldReadings
