@@ -1,8 +1,8 @@
 -- The steps of the loops that complete a set.
-use mathlib.Core.Path.{_≡_, refl, sym, ap, subst, _∙_}
+use mathlib.Core.Path.{_≡_, refl, sym, subst, _∙_}
 use mathlib.Core.List.{List}
 use mathlib.Core.Bool.{Bool, true, false}
-use mathlib.Core.Logic.{_⊎_, inl, inr}
+use mathlib.Core.Logic.{inl, inr}
 use Prim.Native.Nat.{ℕ, _+_, _*_, _/_, _%_, _≤_, _<_}
 use native.Mathlib.Omega.{arith}
 use lib.ListN.{length, getD, set, replicate, length-set, length-replicate}
@@ -10,7 +10,7 @@ use Rattle.std.proofs.shelf.Tests.{both-ways, cases-eq, cases-lt}
 use Rattle.grammar.specs.ItemLists.{In, ClosureAt, CompletesAt, WaitsAt}
 use Rattle.tables.specs.declared.rules.Rules.{Rules}
 use Rattle.tables.specs.Closing.{Waiting, Ahead, Grown, Full, falses}
-use Rattle.tables.proofs.TruthLists.{in-below, in-none, in-set, in-keeps, in-split, falses-set}
+use Rattle.tables.proofs.TruthLists.{in-none, in-set, in-keeps, in-split, falses-set}
 
 module _ (R : Rules) where
   pub code-below : (i : ℕ) → getD (R .right) i 0 < 88

@@ -1,5 +1,5 @@
 -- The grammar that rules in arrays stand for: its rules are those of the arrays, within the limits and with all codes in range.
-use mathlib.Core.Path.{_≡_, refl, sym, ap, subst, _∙_}
+use mathlib.Core.Path.{_≡_, refl, sym, ap, _∙_}
 use mathlib.Core.List.{List, [], _∷_}
 use mathlib.Core.Logic.{_⊎_, inl, inr}
 use Prim.Native.Nat.{ℕ, zero, suc, _+_, _*_, _≤_, _<_}
@@ -8,7 +8,7 @@ use native.Mathlib.Omega.{arith}
 use lib.ListN.{length, getD, take, drop, length-take, length-drop}
 use Rattle.std.proofs.shelf.Lists.{getD-past, getD-take, getD-drop}
 use Rattle.std.proofs.shelf.Tests.{cases-lt}
-use Rattle.grammar.specs.Grammar.{Grammar, Rule, IsTerminal, IsNonterminal, IsRule, AllCodes, Valid, start, no-rule, leftSide, rightSide}
+use Rattle.grammar.specs.Grammar.{Grammar, IsTerminal, IsNonterminal, IsRule, AllCodes, Valid, start, no-rule, leftSide, rightSide}
 use Rattle.grammar.specs.Outcome.{Within, InRange}
 use Rattle.grammar.specs.ItemLists.{Laid}
 use Rattle.grammar.proofs.Codes.{valid}

@@ -6,16 +6,15 @@ use Prim.Native.Nat.{ℕ, zero, suc, _+_, _*_, _≤_, _<_}
 use native.Mathlib.Omega.{arith}
 use lib.ListN.{length, getD, set, replicate, length-set, length-replicate}
 use Rattle.std.specs.Finite.{nth}
-use Rattle.std.proofs.shelf.Lists.{getD-past, getD-set-same, getD-set-other}
-use Rattle.std.proofs.shelf.Tests.{cases-lt, cases-eq}
-use Rattle.grammar.specs.Grammar.{Grammar, Rule, IsRule, IsNonterminal, AllCodes, start, no-rule, leftSide, rightSide}
-use Rattle.grammar.specs.Outcome.{Within, InRange, LowestOutOfRange}
+use Rattle.std.specs.declared.option.Option.{Option}
+use Rattle.std.proofs.shelf.Lists.{getD-set-same, getD-set-other}
+use Rattle.std.proofs.shelf.Tests.{cases-eq}
+use Rattle.grammar.specs.Grammar.{Grammar, Rule, AllCodes, no-rule, leftSide, rightSide}
+use Rattle.grammar.specs.Outcome.{Within}
 use Rattle.grammar.specs.StateLists.{IsCode}
 use Rattle.sheet.specs.Readings.{leftOf, lengthOf, codeOf, leftTold, lengthTold, codeTold}
-use Rattle.tables.specs.SheetArrays.{orZero, Counted, Lengths, Written, Sides}
-use Rattle.tables.proofs.RuleArrays.{each-code}
+use Rattle.tables.specs.SheetArrays.{orZero, Counted, Lengths, Written}
 
--- What a sheet tells of a rule is what the grammar has, with 0 for nothing.
 left-at : (rules : List Rule) (i : ℕ) → orZero (leftOf (nth rules i)) ≡ getD rules i no-rule .left
 unfolding no-rule
 left-at [] i = refl
@@ -55,20 +54,21 @@ all-codes G (x ∷ l) zero all h =
 all-codes G (x ∷ l) (suc d) all h = all-codes G l d (all .1) (omega arith)
 
 module _ (G : Grammar) where
-  pub told-left : (r : ℕ) → 1 ≤ r → orZero (leftTold G r) ≡ leftSide G r
+  -- A reading of a sheet, with 0 for nothing, is what the grammar has.
+  pub left-read : (r x : ℕ) (o : Option ℕ) → 1 ≤ r → x ≡ orZero o → o ≡ leftTold G r → x ≡ leftSide G r
   unfolding leftSide
-  told-left zero h = absurd (omega arith)
-  told-left (suc i) h = left-at (G .rules) i
+  left-read zero x o h p q = absurd (omega arith)
+  left-read (suc i) x o h p q = p ∙ ap orZero q ∙ left-at (G .rules) i
 
-  pub told-length : (r : ℕ) → 1 ≤ r → orZero (lengthTold G r) ≡ length (rightSide G r)
+  pub length-read : (r x : ℕ) (o : Option ℕ) → 1 ≤ r → x ≡ orZero o → o ≡ lengthTold G r → x ≡ length (rightSide G r)
   unfolding rightSide
-  told-length zero h = absurd (omega arith)
-  told-length (suc i) h = length-at (G .rules) i
+  length-read zero x o h p q = absurd (omega arith)
+  length-read (suc i) x o h p q = p ∙ ap orZero q ∙ length-at (G .rules) i
 
-  pub told-code : (r d : ℕ) → 1 ≤ r → orZero (codeTold G r d) ≡ getD (rightSide G r) d 0
+  pub code-read : (r d x : ℕ) (o : Option ℕ) → 1 ≤ r → x ≡ orZero o → o ≡ codeTold G r d → x ≡ getD (rightSide G r) d 0
   unfolding rightSide
-  told-code zero d h = absurd (omega arith)
-  told-code (suc i) d h = code-at (G .rules) i d
+  code-read zero d x o h p q = absurd (omega arith)
+  code-read (suc i) d x o h p q = p ∙ ap orZero q ∙ code-at (G .rules) i d
 
   pub first-length : length (rightSide G 0) ≡ 1
   unfolding rightSide
@@ -165,6 +165,10 @@ module _ (G : Grammar) where
         earlier : (i : ℕ) → (i < 9 * r) ⊎ (9 * r + (d + 1) ≤ i) → (i < 9 * r) ⊎ (9 * r + d ≤ i)
         earlier i (inl h) = inl h
         earlier i (inr h) = inr (omega arith)
+
+  pub written-all : (r : ℕ) (before : List ℕ) (d top : ℕ) (after : List ℕ) → d ≡ length (rightSide G r) → top ≡ G .terminals + G .nonterminals → Written (rightSide G r) d (9 * r) top before after → Written (rightSide G r) (length (rightSide G r)) (9 * r) (G .terminals + G .nonterminals) before after
+  written-all r before d top after p q w =
+      subst (λ n. Written (rightSide G r) n (9 * r) (G .terminals + G .nonterminals) before after) p (subst (λ t. Written (rightSide G r) d (9 * r) t before after) q w)
 
   pub off-range : (r d x : ℕ) → x ≡ getD (rightSide G r) d 0 → d < length (rightSide G r) → (1 ≤ x → x ≤ G .terminals + G .nonterminals → ⊥) → AllCodes G (rightSide G r) → ⊥
   off-range r d x is l nay all = let k = all-codes G (rightSide G r) d all l in nay (omega (arith, k .low)) (omega (arith, k .high))

@@ -1,17 +1,17 @@
 -- A sheet that is read whole: what its arrays keep, and the grammar that they stand for.
 use mathlib.Core.Path.{_≡_, refl, sym, ap, subst, _∙_}
-use mathlib.Core.List.{List, [], _∷_}
-use mathlib.Core.Logic.{_⊎_, inl, inr}
+use mathlib.Core.List.{List}
+use mathlib.Core.Logic.{inl, inr}
 use Prim.Native.Nat.{ℕ, zero, suc, _+_, _*_, _/_, _%_, _≤_, _<_}
 use native.Mathlib.Omega.{arith}
 use lib.ListN.{length, getD, set, replicate, length-set, length-replicate}
 use Rattle.std.proofs.shelf.Lists.{ext-getD, getD-past, getD-set-same, getD-set-other}
 use Rattle.std.proofs.shelf.Tests.{cases-lt, cases-eq}
-use Rattle.grammar.specs.Grammar.{Grammar, Rule, IsRule, IsNonterminal, AllCodes, start, no-rule, leftSide, rightSide}
+use Rattle.grammar.specs.Grammar.{Grammar, Rule, IsNonterminal, start, no-rule, leftSide, rightSide}
 use Rattle.grammar.specs.Outcome.{Within, InRange, LowestOutOfRange}
 use Rattle.grammar.specs.StateLists.{IsCode}
 use Rattle.tables.specs.declared.rules.Rules.{Rules}
-use Rattle.tables.specs.Arrays.{ruleAt, rulesFrom, grammarOf}
+use Rattle.tables.specs.Arrays.{grammarOf}
 use Rattle.tables.specs.SheetArrays.{Lengths, Written, Sides}
 use Rattle.tables.proofs.RuleArrays.{each-code, rules-count, right-length, right-code, left-is, is-rule, terminals-is, nonterminals-is}
 use Rattle.tables.proofs.SheetArrays.{all-codes, zeros, first-length}
@@ -49,20 +49,20 @@ module _ (G : Grammar) where
       first zero = getD-set-same {A = ℕ} (replicate 873 0) 0 (t + 1) 0 (omega (arith, length-replicate {A = ℕ} 873 0)) ∙ (let e : t + 1 ≡ suc (G .terminals) = omega arith in e) ∙ sym start-code
       first (suc d) = rest (9 * 0 + suc d) (omega arith) ∙ sym (first-code d)
 
-  module _ (n x size top : ℕ) (left right after : List ℕ) (f : Sides G n left right) (low : 1 ≤ n) (room : n ≤ 96) (is : x ≡ leftSide G n) (side : IsNonterminal G x) (long : size ≡ length (rightSide G n)) (fits : size ≤ 8) (last : top ≡ G .terminals + G .nonterminals) (w : Written (rightSide G n) size (9 * n) top right after) where
+  module _ (n x : ℕ) (left right after : List ℕ) (f : Sides G n left right) (low : 1 ≤ n) (room : n ≤ 96) (is : x ≡ leftSide G n) (side : IsNonterminal G x) (short : length (rightSide G n) ≤ 8) (w : Written (rightSide G n) (length (rightSide G n)) (9 * n) (G .terminals + G .nonterminals) right after) where
     range : InRange G n
     range =
         record {
           left = subst (λ y. IsNonterminal G y) is side;
-          right = each-code G (rightSide G n) λ d h. (w .low d (omega arith), omega (arith, w .high d (omega arith)));
+          right = each-code G (rightSide G n) λ d h. (w .low d h, w .high d h);
         }
 
     codes-more : (r d : ℕ) → r < n + 1 → d < 9 → getD after (9 * r + d) 0 ≡ getD (rightSide G r) d 0
     codes-more r d h l =
         elim (cases-eq r n) [
-          | inl e ↦ subst (λ q. getD after (9 * q + d) 0 ≡ getD (rightSide G q) d 0) (sym e) (elim (cases-lt d size) [
+          | inl e ↦ subst (λ q. getD after (9 * q + d) 0 ≡ getD (rightSide G q) d 0) (sym e) (elim (cases-lt d (length (rightSide G n))) [
             | inl k ↦ w .here d k
-            | inr k ↦ w .other (9 * n + d) (inr (omega arith)) ∙ f .codes-rest (9 * n + d) (omega arith) ∙ sym (getD-past (rightSide G n) d 0 (omega arith))
+            | inr k ↦ w .other (9 * n + d) (inr (omega arith)) ∙ f .codes-rest (9 * n + d) (omega arith) ∙ sym (getD-past (rightSide G n) d 0 k)
           ])
           | inr ne ↦ w .other (9 * r + d) (inl (omega arith)) ∙ f .codes r d (omega arith) l
         ]
@@ -98,14 +98,25 @@ module _ (G : Grammar) where
   code-range W (suc r) d all h = all-codes G (rightSide G (suc r)) d (all (omega arith) .right) h
 
 -- What the arrays of all rules keep.
+pub record Kept (t k p : ℕ) (size left right : List ℕ) : Type 0 where
+  pub short : (r : ℕ) → getD size r 0 ≤ 8
+  pub lefts : (r : ℕ) → 1 ≤ r → r ≤ p → t < getD left r 0
+  pub leftsbelow : (r : ℕ) → getD left r 0 ≤ t + k
+  pub inside : (r d : ℕ) → r ≤ p → d < getD size r 0 → 1 ≤ getD right (9 * r + d) 0
+  pub ended : (r d : ℕ) → getD size r 0 ≤ d → d < 9 → getD right (9 * r + d) 0 ≤ 0
+  pub past : (r : ℕ) → p < r → getD size r 0 ≡ 0
+  pub below : (i : ℕ) → getD right i 0 ≤ t + k
+  pub firstsize : getD size 0 0 ≡ 1
+  pub firstcode : getD right 0 0 ≡ t + 1
+
 module _ (G : Grammar) (W : Within G) (t k p : ℕ) (terminals : t ≡ G .terminals) (nonterminals : k ≡ G .nonterminals) (count : p ≡ length (G .rules)) (size left right : List ℕ) (m : Lengths G (suc p) size) (f : Sides G (suc p) left right) where
-  pub kept-short : (r : ℕ) → getD size r 0 ≤ 8
+  kept-short : (r : ℕ) → getD size r 0 ≤ 8
   kept-short r = elim (cases-lt r (suc p)) [ inl h ↦ m .short r h | inr h ↦ omega (arith, m .rest r h) ]
 
-  pub kept-lefts : (r : ℕ) → 1 ≤ r → r ≤ p → t < getD left r 0
+  kept-lefts : (r : ℕ) → 1 ≤ r → r ≤ p → t < getD left r 0
   kept-lefts r low h = omega (arith, f .lefts r (omega arith), f .in-range r low (omega arith) .left .low)
 
-  pub kept-leftsbelow : (r : ℕ) → getD left r 0 ≤ t + k
+  kept-leftsbelow : (r : ℕ) → getD left r 0 ≤ t + k
   kept-leftsbelow r =
       elim (cases-lt r (suc p)) [
         | inl h ↦ elim (cases-eq r 0) [
@@ -118,19 +129,19 @@ module _ (G : Grammar) (W : Within G) (t k p : ℕ) (terminals : t ≡ G .termin
   code-in : (r d : ℕ) → r < suc p → d < length (rightSide G r) → IsCode G (getD (rightSide G r) d 0)
   code-in r d h l = code-range G W r d (λ low. f .in-range r low h) l
 
-  pub kept-inside : (r d : ℕ) → r ≤ p → d < getD size r 0 → 1 ≤ getD right (9 * r + d) 0
+  kept-inside : (r d : ℕ) → r ≤ p → d < getD size r 0 → 1 ≤ getD right (9 * r + d) 0
   kept-inside r d h l =
       let b : r < suc p = omega arith in
       omega (arith, f .codes r d b (omega (arith, m .short r b)), code-in r d b (omega (arith, m .below r b)) .low)
 
-  pub kept-ended : (r d : ℕ) → getD size r 0 ≤ d → d < 9 → getD right (9 * r + d) 0 ≤ 0
+  kept-ended : (r d : ℕ) → getD size r 0 ≤ d → d < 9 → getD right (9 * r + d) 0 ≤ 0
   kept-ended r d h l =
       elim (cases-lt r (suc p)) [
         | inl b ↦ omega (arith, f .codes r d b l, getD-past (rightSide G r) d 0 (omega (arith, m .below r b)))
         | inr b ↦ omega (arith, f .codes-rest (9 * r + d) (omega arith))
       ]
 
-  pub kept-past : (r : ℕ) → p < r → getD size r 0 ≡ 0
+  kept-past : (r : ℕ) → p < r → getD size r 0 ≡ 0
   kept-past r h = m .rest r (omega arith)
 
   below-at : (r d : ℕ) → r < suc p → getD (rightSide G r) d 0 ≤ t + k
@@ -140,7 +151,7 @@ module _ (G : Grammar) (W : Within G) (t k p : ℕ) (terminals : t ≡ G .termin
         | inr l ↦ omega (arith, getD-past (rightSide G r) d 0 l)
       ]
 
-  pub kept-below : (i : ℕ) → getD right i 0 ≤ t + k
+  kept-below : (i : ℕ) → getD right i 0 ≤ t + k
   kept-below i =
       elim (cases-lt i (9 * suc p)) [
         | inl h ↦
@@ -150,11 +161,25 @@ module _ (G : Grammar) (W : Within G) (t k p : ℕ) (terminals : t ≡ G .termin
         | inr h ↦ omega (arith, f .codes-rest i h)
       ]
 
-  pub kept-firstsize : getD size 0 0 ≡ 1
+  kept-firstsize : getD size 0 0 ≡ 1
   kept-firstsize = m .below 0 (omega arith) ∙ first-length G
 
-  pub kept-firstcode : getD right 0 0 ≡ t + 1
+  kept-firstcode : getD right 0 0 ≡ t + 1
   kept-firstcode = f .codes 0 0 (omega arith) (omega arith) ∙ start-code G ∙ omega arith
+
+  pub kept : Kept t k p size left right
+  kept =
+      record {
+        short = kept-short;
+        lefts = kept-lefts;
+        leftsbelow = kept-leftsbelow;
+        inside = kept-inside;
+        ended = kept-ended;
+        past = kept-past;
+        below = kept-below;
+        firstsize = kept-firstsize;
+        firstcode = kept-firstcode;
+      }
 
 -- Rules are equal if their parts are.
 same-rule : (a b : Rule) → a .left ≡ b .left → a .right ≡ b .right → a ≡ b

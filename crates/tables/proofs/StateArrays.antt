@@ -1,10 +1,10 @@
 -- The numbering of states in arrays, by the lemmas on lists, for the grammar of rules in arrays.
 use mathlib.Core.Path.{_≡_, refl, sym, ap, subst, _∙_}
 use mathlib.Core.List.{List, []}
-use mathlib.Core.Bool.{Bool, true, false}
+use mathlib.Core.Bool.{Bool}
 use Prim.Native.Nat.{ℕ, _+_, _*_, _≤_, _<_}
 use native.Mathlib.Omega.{arith}
-use lib.ListN.{length, getD, set, length-set}
+use lib.ListN.{length, set, length-set}
 use Rattle.std.proofs.shelf.Lists.{getD-set-same, getD-set-other}
 use Rattle.grammar.specs.Items.{Completes, Move, Waits, origin}
 use Rattle.grammar.specs.ItemLists.{itemsOf, originList, CompletesAt, BehindAt, WaitsAt}

@@ -1,12 +1,13 @@
 -- How far a sheet is read into arrays.
 use mathlib.Core.Path.{_≡_}
 use mathlib.Core.List.{List}
+use mathlib.Core.Bool.{Bool, true, false}
 use mathlib.Core.Logic.{_⊎_}
 use Prim.Native.Nat.{ℕ, suc, _+_, _*_, _≤_, _<_}
 use lib.ListN.{length, getD}
 use Rattle.std.specs.declared.option.Option.{Option}
 use Rattle.std.specs.declared.option.Option.the-variants.{Some, None}
-use Rattle.grammar.specs.Grammar.{Grammar, leftSide, rightSide}
+use Rattle.grammar.specs.Grammar.{Grammar, AllCodes, leftSide, rightSide}
 use Rattle.grammar.specs.Outcome.{Within, InRange}
 
 -- What a sheet tells, 0 if it tells nothing.
@@ -42,6 +43,11 @@ pub record Written (codes : List ℕ) (n place top : ℕ) (before after : List �
   pub low : (d : ℕ) → d < n → 1 ≤ getD codes d 0
   pub high : (d : ℕ) → d < n → getD codes d 0 ≤ top
   pub other : (i : ℕ) → (i < place) ⊎ (place + n ≤ i) → getD after i 0 ≡ getD before i 0
+
+-- The codes of a rule are written to its places, or one of them is out of range.
+abbrev pub Codes : Bool → Grammar → ℕ → List ℕ → List ℕ → Type 0
+Codes true G r before after = Written (rightSide G r) (length (rightSide G r)) (9 * r) (G .terminals + G .nonterminals) before after
+Codes false G r before after = AllCodes G (rightSide G r) → ⊥
 
 -- Both sides of the rules below n, all in range, and 0 from there on.
 pub record Sides (G : Grammar) (n : ℕ) (left right : List ℕ) : Type 0 where

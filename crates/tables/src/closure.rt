@@ -24,7 +24,8 @@ pub fn waiting(rules: &Rules, items: &[bool; 873]) -> [bool; 88]
 // Whether the left side of a rule is ahead.
 fn begins(rules: &Rules, ahead: &[bool; 88], q: usize) -> bool
     requires { ⌜ q < 97 ⌝ }
-    ensures { λ r. ⌜ r ≡ getD (now (ahead .entry)) (getD (now (rules .entry) .left) q 0) false ⌝ }
+    ensures yes { λ r. ⌜ (r ≡ true → In (now (ahead .entry)) (getD (now (rules .entry) .left) q 0)) ⌝ }
+    ensures no { λ r. ⌜ (r ≡ false → In (now (ahead .entry)) (getD (now (rules .entry) .left) q 0) → ⊥) ⌝ }
 {
     ahead[rules.left[q] as usize]
 }

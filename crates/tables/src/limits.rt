@@ -1,10 +1,9 @@
 // Reads a rule sheet into arrays, if it is within the limits and all codes are in range.
-ghost use Prim.Native.Nat.{ℕ, _*_, _+_, _<_, _≤_, suc};
-ghost use lib.Dec.{leb};
-ghost use Rattle.grammar.specs.Grammar.{AllCodes, rightSide};
+ghost use Prim.Native.Nat.{_*_, _+_, _<_, _≤_, suc};
+ghost use Rattle.grammar.specs.Grammar.{rightSide};
 ghost use Rattle.grammar.specs.Outcome.{Within};
 ghost use Rattle.tables.specs.Admitted.{Admitted};
-ghost use Rattle.tables.specs.SheetArrays.{Counted, Lengths, Measured, Written, orZero};
+ghost use Rattle.tables.specs.SheetArrays.{Codes, Counted, Lengths, Measured, orZero};
 ghost use lib.ListN.{length};
 ghost use mathlib.Core.Bool.{false, true};
 ghost use mathlib.Core.Path.{_≡_};
@@ -41,7 +40,8 @@ fn counted<S: RuleSheet>(sheet: &S) -> bool
 
 // Whether a right side can be this long.
 fn short_enough(length: u16) -> bool
-    ensures { λ r. ⌜ r ≡ leb length 8 ⌝ }
+    ensures yes { λ r. ⌜ (r ≡ true → length ≤ 8) ⌝ }
+    ensures no { λ r. ⌜ (r ≡ false → 8 < length) ⌝ }
 {
     length <= 8
 }
@@ -91,8 +91,7 @@ fn codes<S: RuleSheet>(sheet: &S, rule: u16, size: u8, top: u16, right: &mut [u8
     requires rule { ⌜ (1 ≤ rule) × (rule ≤ 96) ⌝ }
     requires size { ⌜ (size ≡ length (rightSide (S·RuleSheet .meaning (now sheet)) rule)) × (size ≤ 8) ⌝ }
     requires top { ⌜ (top ≡ S·RuleSheet .meaning (now sheet) .terminals + S·RuleSheet .meaning (now sheet) .nonterminals) × (top ≤ 87) ⌝ }
-    ensures yes { λ r. ⌜ (r ≡ true → Written (rightSide (S·RuleSheet .meaning (now (sheet .entry))) rule) size (9 * rule) top (now (right .entry)) (now (right .exit))) ⌝ }
-    ensures no { λ r. ⌜ (r ≡ false → AllCodes (S·RuleSheet .meaning (now (sheet .entry))) (rightSide (S·RuleSheet .meaning (now (sheet .entry))) rule) → ⊥) ⌝ }
+    ensures { λ r. ⌜ Codes r (S·RuleSheet .meaning (now (sheet .entry))) rule (now (right .entry)) (now (right .exit)) ⌝ }
 {
     for place in 0..size as u16 {
         let code = or_zero(sheet.code(rule, place));

@@ -2,7 +2,6 @@
 ghost use Prim.Native.Nat.{ℕ, _<_, _≤_};
 ghost use Rattle.grammar.specs.StateLists.{Placed, stateAt};
 ghost use Rattle.tables.specs.Fingerprints.{Printed, cubes};
-ghost use lib.Dec.{leb};
 ghost use lib.ListN.{getD};
 ghost use mathlib.Core.Bool.{false, true};
 ghost use mathlib.Core.Path.{_≡_};
@@ -51,7 +50,8 @@ fn find(states: &States, prints: &[u64; 96], items: &[bool; 873], print: u64) ->
 
 // Whether there is no room for another state.
 fn full(states: &States) -> bool
-    ensures { λ r. ⌜ r ≡ leb 96 (now (states .entry) .count) ⌝ }
+    ensures yes { λ r. ⌜ (r ≡ true → 96 ≤ now (states .entry) .count) ⌝ }
+    ensures no { λ r. ⌜ (r ≡ false → now (states .entry) .count < 96) ⌝ }
 {
     states.count >= 96
 }

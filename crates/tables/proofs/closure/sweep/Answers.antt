@@ -1,9 +1,5 @@
-use mathlib.Core.Path.{sym, _∙_}
-use mathlib.Core.Bool.{false}
 use Prim.Native.Nat.{_+_}
 use native.Mathlib.Omega.{arith}
-use lib.ListN.{getD}
-use Rattle.std.proofs.shelf.Tests.{both-ways}
 use Rattle.tables.proofs.Closing.{swept-more, swept-skip, swept-at}
 use Rattle.tables.proofs.closure.sweep.Needs as need
 use Rattle.tables.proofs.closure.sweep.Needs.{then-begins·then-not-ahead-first, else-begins, else-begins·by·then-begins·else-not-ahead-first, else-begins·by·else-begins}
@@ -15,9 +11,9 @@ loop-q-again c =
     let q = c .loop-q .q in
     let ahead = c .loop-q .ahead in
     elim (c .if-begins .came) [
-      | then-begins·then-not-ahead-first w ↦ swept-at R old (q + 1) (w .ahead-is) (w .more-is) (swept-more R old q ahead (c .loop-q .more) (c .loop-q .kept .q) (omega arith) (c .loop-q .inv) (sym (c .begins .ensures) ∙ w .if-begins .taken) (w .if-not-ahead-first .taken))
+      | then-begins·then-not-ahead-first w ↦ swept-at R old (q + 1) (w .ahead-is) (w .more-is) (swept-more R old q ahead (c .loop-q .more) (c .loop-q .kept .q) (omega arith) (c .loop-q .inv) (c .begins .ensures .yes (w .if-begins .taken)) (w .if-not-ahead-first .taken))
       | else-begins w ↦ swept-at R old (q + 1) (w .ahead-is) (w .more-is) (swept-skip R old q ahead (c .loop-q .more) (c .loop-q .inv) λ h. elim (w .else-begins .came) [
         | else-begins·by·then-begins·else-not-ahead-first v ↦ v .if-not-ahead-first .left
-        | else-begins·by·else-begins v ↦ absurd (both-ways (getD ahead (getD (R .left) q 0) false) (sym (c .begins .ensures) ∙ v .if-begins .left) h)
+        | else-begins·by·else-begins v ↦ absurd (c .begins .ensures .no (v .if-begins .left) h)
       ])
     ]

@@ -1,12 +1,11 @@
-use mathlib.Core.Path.{_≡_, sym, ap, subst, _∙_}
-use Prim.Native.Nat.{ℕ, suc, _+_, _-_, _*_, _≤_, _<_}
+use mathlib.Core.Path.{_≡_, sym, subst}
+use Prim.Native.Nat.{suc, _+_, _-_, _<_}
 use native.Mathlib.Omega.{arith}
 use lib.ListN.{length}
-use Rattle.grammar.specs.Grammar.{Grammar}
 use Rattle.grammar.specs.Outcome.{Outcome, refused, out-of-range}
-use Rattle.tables.specs.SheetArrays.{orZero, Sides, Lengths}
-use Rattle.tables.proofs.SheetArrays.{told-left}
-use Rattle.tables.proofs.SheetRules.{sides-first, sides-more, lowest, read-grammar, kept-short, kept-lefts, kept-leftsbelow, kept-inside, kept-ended, kept-past, kept-below, kept-firstsize, kept-firstcode}
+use Rattle.tables.specs.SheetArrays.{Sides, Lengths}
+use Rattle.tables.proofs.SheetArrays.{left-read}
+use Rattle.tables.proofs.SheetRules.{sides-first, sides-more, lowest, kept, read-grammar}
 use Rattle.tables.proofs.limits.sides.Needs as need
 
 pub loop-rule-holds : need.loop-rule-holds
@@ -16,7 +15,7 @@ pub returns-then-not-is-nonterminal : need.returns-then-not-is-nonterminal
 returns-then-not-is-nonterminal g c =
     let G = g .S·RuleSheet .meaning (c .args .sheet .now) in
     let r = c .loop-rule .rule in
-    let is = c .or-zero-side .ensures ∙ ap orZero (c .left .ensures) ∙ told-left G r (omega arith) in
+    let is = left-read G r (c .or-zero-side .result) (c .left .result) (omega arith) (c .or-zero-side .ensures) (c .left .ensures) in
     subst (λ e. Outcome G (refused e)) (sym (c .out-of-range .ensures))
     (out-of-range (c .pre .within) (lowest G r (c .loop-rule .left) (c .loop-rule .right) (c .loop-rule .inv) (omega arith) (omega arith)
     λ range. c .is-nonterminal .ensures .no (c .if-not-is-nonterminal .taken) (omega (arith, range .left .low, is)) (omega (arith, range .left .high, is))))
@@ -37,18 +36,18 @@ returns-then-not-codes g c =
     let r = c .loop-rule .rule in
     subst (λ e. Outcome G (refused e)) (sym (c .out-of-range-then-not-codes .ensures))
     (out-of-range (c .pre .within) (lowest G r (c .loop-rule .left) (c .loop-rule .right) (c .loop-rule .inv) (omega arith) (omega arith)
-    (λ range. c .codes .ensures .no (c .if-not-codes .taken) (range .right))))
+    (λ range. c .if-not-codes .ensures tt (range .right))))
 
 pub loop-rule-again : need.loop-rule-again
 loop-rule-again g c =
     let G = g .S·RuleSheet .meaning (c .args .sheet .now) in
     let r = c .loop-rule .rule in
     let b : r < suc (length (G .rules)) = omega arith in
-    let is = c .or-zero-side .ensures ∙ ap orZero (c .left .ensures) ∙ told-left G r (omega arith) in
+    let is = left-read G r (c .or-zero-side .result) (c .left .result) (omega arith) (c .or-zero-side .ensures) (c .left .ensures) in
     let ok = c .is-nonterminal .ensures .yes (c .if-not-is-nonterminal .left) in
-    sides-more G r (c .or-zero-side .result) _ (c .terminals-terminals .result + c .nonterminals .result) (c .loop-rule .left) (c .loop-rule .right) (c .codes .last .right) (c .loop-rule .inv) (omega arith) (omega arith) is
+    sides-more G r (c .or-zero-side .result) (c .loop-rule .left) (c .loop-rule .right) (c .codes .last .right) (c .loop-rule .inv) (omega arith) (omega arith) is
     (record { low = omega (arith, ok .0); high = omega (arith, ok .1) })
-    (c .pre .lengths .below r b) (c .pre .lengths .short r b) (omega arith) (c .codes .ensures .yes (c .if-not-codes .left))
+    (omega (arith, c .pre .lengths .below r b, c .pre .lengths .short r b)) (c .if-not-codes .ensures tt)
 
 pub ghost-result : need.ghost-result
 ghost-result g c =
@@ -57,16 +56,12 @@ ghost-result g c =
     let t = c .terminals-terminals .result in
     let k = (c .terminals-terminals .result + c .nonterminals .result) - c .terminals-terminals .result in
     let p = c .rules .result in
-    let tn = c .terminals-terminals .ensures in
-    let pn = c .rules .ensures in
     let kn : k ≡ G .nonterminals = omega arith in
     let last : c .loop-rule .rule ≡ suc p = omega arith in
     let m : Lengths G (suc p) (c .args .size) = subst (λ n. Lengths G n (c .args .size)) (let e : suc (length (G .rules)) ≡ suc p = omega arith in e) (c .pre .lengths) in
     let f : Sides G (suc p) (c .loop-rule .left) (c .loop-rule .right) = subst (λ n. Sides G n (c .loop-rule .left) (c .loop-rule .right)) last (c .loop-rule .inv) in
-    let x = c .args .size in
-    let y = c .loop-rule .left in
-    let z = c .loop-rule .right in
-    (omega (arith, W .some-terminal), (omega (arith, W .terminals), (omega (arith, W .some-nonterminal), (omega (arith, W .nonterminals), (omega (arith, W .some-rule), (omega (arith, W .rules), (f .left-places, (m .places, (f .right-places, (kept-short G W t k p tn kn pn x y z m f, (kept-lefts G W t k p tn kn pn x y z m f, (kept-leftsbelow G W t k p tn kn pn x y z m f, (kept-inside G W t k p tn kn pn x y z m f, (kept-ended G W t k p tn kn pn x y z m f, (kept-past G W t k p tn kn pn x y z m f, (kept-below G W t k p tn kn pn x y z m f, (kept-firstsize G W t k p tn kn pn x y z m f, (kept-firstcode G W t k p tn kn pn x y z m f, tt))))))))))))))))))
+    let q = kept G W t k p (c .terminals-terminals .ensures) kn (c .rules .ensures) (c .args .size) (c .loop-rule .left) (c .loop-rule .right) m f in
+    (omega (arith, W .some-terminal), (omega (arith, W .terminals), (omega (arith, W .some-nonterminal), (omega (arith, W .nonterminals), (omega (arith, W .some-rule), (omega (arith, W .rules), (f .left-places, (m .places, (f .right-places, (q .short, (q .lefts, (q .leftsbelow, (q .inside, (q .ended, (q .past, (q .below, (q .firstsize, (q .firstcode, tt))))))))))))))))))
 
 pub returns : need.returns
 returns g c =

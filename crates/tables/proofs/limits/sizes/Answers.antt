@@ -1,11 +1,9 @@
-use mathlib.Core.Path.{_≡_, sym, subst, ap, _∙_}
+use mathlib.Core.Path.{_≡_, subst}
 use native.Mathlib.Omega.{arith}
 use Prim.Native.Nat.{suc}
 use lib.ListN.{length}
-use Rattle.std.proofs.shelf.Tests.{leb-true, leb-false}
-use Rattle.grammar.specs.Grammar.{rightSide}
-use Rattle.tables.specs.SheetArrays.{orZero, Lengths}
-use Rattle.tables.proofs.SheetArrays.{told-length, lengths-first, lengths-more, too-long, within-lengths}
+use Rattle.tables.specs.SheetArrays.{Lengths}
+use Rattle.tables.proofs.SheetArrays.{length-read, lengths-first, lengths-more, too-long, within-lengths}
 use Rattle.tables.proofs.limits.sizes.Needs as need
 
 pub loop-rule-holds : need.loop-rule-holds
@@ -15,16 +13,15 @@ pub returns-then-not-short-enough : need.returns-then-not-short-enough
 returns-then-not-short-enough g c =
     let G = g .S·RuleSheet .meaning (c .args .sheet .now) in
     let r = c .loop-rule .rule in
-    let is = told-length G r (omega arith) in
-    let told = c .or-zero-length .ensures ∙ ap orZero (c .length .ensures) in
-    too-long G r (omega arith) (omega arith) (omega (arith, told, is, leb-false (c .or-zero-length .result) 8 (sym (c .short-enough .ensures) ∙ c .if-not-short-enough .taken)))
+    let is = length-read G r (c .or-zero-length .result) (c .length .result) (omega arith) (c .or-zero-length .ensures) (c .length .ensures) in
+    too-long G r (omega arith) (omega arith) (omega (arith, is, c .short-enough .ensures .no (c .if-not-short-enough .taken)))
 
 pub loop-rule-again : need.loop-rule-again
 loop-rule-again g c =
     let G = g .S·RuleSheet .meaning (c .args .sheet .now) in
     let r = c .loop-rule .rule in
-    let told = c .or-zero-length .ensures ∙ ap orZero (c .length .ensures) in
-    lengths-more G r (c .or-zero-length .result) (c .loop-rule .size) (c .loop-rule .inv) (omega arith) (told ∙ told-length G r (omega arith)) (leb-true (c .or-zero-length .result) 8 (sym (c .short-enough .ensures) ∙ c .if-not-short-enough .left))
+    let is = length-read G r (c .or-zero-length .result) (c .length .result) (omega arith) (c .or-zero-length .ensures) (c .length .ensures) in
+    lengths-more G r (c .or-zero-length .result) (c .loop-rule .size) (c .loop-rule .inv) (omega arith) is (c .short-enough .ensures .yes (c .if-not-short-enough .left))
 
 pub returns : need.returns
 returns g c =

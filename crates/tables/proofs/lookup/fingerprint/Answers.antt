@@ -1,4 +1,4 @@
-use mathlib.Core.Path.{_≡_, refl, sym, subst, _∙_}
+use mathlib.Core.Path.{refl}
 use native.Mathlib.Omega.{arith}
 use Rattle.tables.specs.Fingerprints.{cubes}
 use Rattle.tables.proofs.Fingerprints.{cubes-more, cubes-skip, cube-fits}

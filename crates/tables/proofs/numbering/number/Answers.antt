@@ -1,6 +1,5 @@
 use mathlib.Core.Path.{refl}
 use mathlib.Core.Bool.{true}
-use native.Mathlib.Omega.{arith}
 use Rattle.std.proofs.shelf.Tests.{both-ways}
 use Rattle.tables.proofs.StateArrays.{numbered-states}
 use Rattle.tables.proofs.numbering.number.Needs as need
