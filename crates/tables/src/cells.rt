@@ -53,7 +53,7 @@ fn fill_row(
 }
 
 // The cells by state and word, none where there is no action; or the first conflict.
-pub fn fill(
+pub(crate) fn fill(
     rules: &Rules,
     states: &States,
     lookaheads: &[Option<WordSet>; 9312],

@@ -9,7 +9,7 @@ ghost use mathlib.Core.Path.{_≡_};
 use super::rules::Rules;
 
 // The codes behind the dots of a set. Code 0 is not to be looked at.
-pub fn waiting(rules: &Rules, items: &[bool; 873]) -> [bool; 88]
+pub(crate) fn waiting(rules: &Rules, items: &[bool; 873]) -> [bool; 88]
     ensures { λ r. ⌜ Waiting (now (rules .entry)) (now (items .entry)) r ⌝ }
 {
     let mut ahead = [false; 88];
@@ -58,7 +58,7 @@ fn ahead_of(rules: &Rules, items: &[bool; 873]) -> [bool; 88]
 }
 
 // Completes a set.
-pub fn complete(rules: &Rules, items: &mut [bool; 873])
+pub(crate) fn complete(rules: &Rules, items: &mut [bool; 873])
     ensures { λ _. ⌜ CompletesAt (now (rules .entry) .left) (now (rules .entry) .right) (now (rules .entry) .count) (now (items .entry)) (now (items .exit)) ⌝ }
 {
     let ahead = ahead_of(rules, items);

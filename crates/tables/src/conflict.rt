@@ -11,7 +11,7 @@ pub struct Conflict {
 }
 
 // The one with the lower word; the old one if they have the same.
-pub fn lowest(old: Option<Conflict>, more: Conflict) -> Option<Conflict>
+pub(crate) fn lowest(old: Option<Conflict>, more: Conflict) -> Option<Conflict>
     ensures { λ r. ⌜ r ≡ lowestOf old more ⌝ }
 {
     match old {

@@ -59,7 +59,7 @@ fn first_codes(words: u8) -> [bool; 88]
 
 // The codes that derive a list of words that are at most `words`: the nullable codes at 0, and the productive ones at all terminals.
 // A round over the rules marks one nonterminal more, so that there are at most 25 rounds.
-pub fn derive_words(rules: &Rules, words: u8) -> [bool; 88]
+pub(crate) fn derive_words(rules: &Rules, words: u8) -> [bool; 88]
     requires { ⌜ words ≤ now rules .terminals ⌝ }
     ensures exact { λ r. ⌜ MarksOf (DerivesWords (grammarOf (now (rules .entry))) words) r ⌝ }
     ensures none { λ r. ⌜ (words ≡ 0 → NullableMarks (grammarOf (now (rules .entry))) r) ⌝ }

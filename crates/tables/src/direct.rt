@@ -50,7 +50,7 @@ fn direct_behind(rules: &Rules, states: &States, direct: &[WordSet; 96], place: 
 }
 
 // The direct words behind all transitions, by place.
-pub fn direct_by_place(rules: &Rules, states: &States) -> [WordSet; 2304]
+pub(crate) fn direct_by_place(rules: &Rules, states: &States) -> [WordSet; 2304]
     ensures { λ r. ⌜ SetsOf (DirectAt (now (rules .entry)) (now (states .entry))) 2304 r ⌝ }
 {
     let direct = direct_by_state(rules, states);

@@ -11,7 +11,7 @@ use super::rules::Rules;
 use super::states::States;
 
 // The state to which a state leads by a code.
-pub fn goto(rules: &Rules, states: &States, state: usize, code: usize) -> Option<usize>
+pub(crate) fn goto(rules: &Rules, states: &States, state: usize, code: usize) -> Option<usize>
     ensures { λ r. ⌜ asOption r ≡ automaton (now (rules .entry)) (now (states .entry)) .goto state code ⌝ }
 {
     let codes = rules.terminals as usize + rules.nonterminals as usize;
@@ -27,7 +27,7 @@ pub fn goto(rules: &Rules, states: &States, state: usize, code: usize) -> Option
 }
 
 // Whether a state has rule 0 with its dot before the end mark.
-pub fn at_end(states: &States, state: usize) -> bool
+pub(crate) fn at_end(states: &States, state: usize) -> bool
     requires { ⌜ state < now states .count ⌝ }
     ensures { λ r. ⌜ r ≡ getD (stateAt (now (states .entry) .sets) state) 1 false ⌝ }
 {
@@ -35,7 +35,7 @@ pub fn at_end(states: &States, state: usize) -> bool
 }
 
 // The state behind the transition at a place.
-pub fn behind(rules: &Rules, states: &States, place: usize) -> Option<usize>
+pub(crate) fn behind(rules: &Rules, states: &States, place: usize) -> Option<usize>
     ensures { λ r. ⌜ asOption r ≡ automaton (now (rules .entry)) (now (states .entry)) .goto (transitionAt (now (rules .entry)) place .0) (transitionAt (now (rules .entry)) place .1) ⌝ }
 {
     goto(

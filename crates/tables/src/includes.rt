@@ -76,7 +76,7 @@ fn steps_by_state(
 }
 
 // Lists all steps of includes.
-pub fn include_steps(rules: &Rules, states: &States, null: &[bool; 88]) -> Steps
+pub(crate) fn include_steps(rules: &Rules, states: &States, null: &[bool; 88]) -> Steps
     requires { ⌜ NullableMarks (grammarOf (now rules)) (now null) ⌝ }
     ensures { λ r. ⌜ AllSteps (now (rules .entry)) (now (states .entry)) r ⌝ }
 {

@@ -135,7 +135,7 @@ fn sides<S: RuleSheet>(sheet: &S, size: [u8; 97]) -> Result<Rules, Refusal>
 }
 
 // The rules of a sheet. Limits are looked at before ranges, and the lowest rule out of range is told.
-pub fn read<S: RuleSheet>(sheet: &S) -> Result<Rules, Refusal>
+pub(crate) fn read<S: RuleSheet>(sheet: &S) -> Result<Rules, Refusal>
     ensures { λ r. ⌜ Admitted (S·RuleSheet .meaning (now (sheet .entry))) r ⌝ }
 {
     if !counted(sheet) {

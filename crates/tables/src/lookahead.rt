@@ -117,7 +117,11 @@ fn add_follows(
 }
 
 // The lookahead of each rule in each state, at 97 * state + rule; none where the rule is not complete in the state.
-pub fn lookaheads(rules: &Rules, states: &States, null: &[bool; 88]) -> [Option<WordSet>; 9312]
+pub(crate) fn lookaheads(
+    rules: &Rules,
+    states: &States,
+    null: &[bool; 88],
+) -> [Option<WordSet>; 9312]
     requires { ⌜ NullableMarks (grammarOf (now rules)) (now null) ⌝ }
     ensures { λ r. ⌜ Lookaheads (now (rules .entry)) (now (states .entry)) r ⌝ }
 {

@@ -8,7 +8,7 @@ ghost use mathlib.Core.Path.{_≡_};
 use super::states::States;
 
 // The sum of the cubes of the item numbers below `end` that are in.
-pub fn fingerprint(items: &[bool; 873], end: usize) -> u64
+pub(crate) fn fingerprint(items: &[bool; 873], end: usize) -> u64
     requires { ⌜ end ≤ 873 ⌝ }
     ensures { λ r. ⌜ r ≡ cubes end (now (items .entry)) ⌝ }
 {
@@ -57,7 +57,12 @@ fn full(states: &States) -> bool
 }
 
 // The number of a set, which is put at the end if it is new; 96 if there is no room for it.
-pub fn place(states: &mut States, prints: &mut [u64; 96], items: &[bool; 873], end: usize) -> usize
+pub(crate) fn place(
+    states: &mut States,
+    prints: &mut [u64; 96],
+    items: &[bool; 873],
+    end: usize,
+) -> usize
     requires end { ⌜ end ≤ 873 ⌝ }
     requires printed { ⌜ Printed end (now states .count) (now states .sets) (now prints) ⌝ }
     ensures placed { λ r. ⌜ Placed (now (items .entry)) (now (states .entry) .count) (now (states .entry) .sets) (now (states .exit) .count) (now (states .exit) .sets) r ⌝ }

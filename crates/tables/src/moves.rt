@@ -16,7 +16,7 @@ fn waits(rules: &Rules, items: &[bool; 873], i: usize, code: u8) -> bool
 }
 
 // The items with the dot before the code, with the dot put behind it.
-pub fn advance(rules: &Rules, items: &[bool; 873], code: u8) -> [bool; 873]
+pub(crate) fn advance(rules: &Rules, items: &[bool; 873], code: u8) -> [bool; 873]
     requires { ⌜ 1 ≤ code ⌝ }
     ensures { λ r. ⌜ BehindAt (now (rules .entry) .right) (now (items .entry)) code r ⌝ }
 {

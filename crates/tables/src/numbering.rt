@@ -88,7 +88,7 @@ fn row(rules: &Rules, states: &mut States, prints: &mut [u64; 96], s: usize) -> 
 }
 
 // The numbered states of the rules; no, and any states, if a 97th is needed.
-pub fn number(rules: &Rules, states: &mut States) -> bool
+pub(crate) fn number(rules: &Rules, states: &mut States) -> bool
     ensures done { λ r. ⌜ (r ≡ true → Numbered (grammarOf (now (rules .entry))) (now (states .exit) .count) (automaton (now (rules .entry)) (now (states .exit)))) ⌝ }
     ensures crowded { λ r. ⌜ (r ≡ false → Crowded (grammarOf (now (rules .entry)))) ⌝ }
 {

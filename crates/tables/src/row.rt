@@ -36,7 +36,7 @@ impl Row {
     }
 
     // Enters the reduction by a rule at the words of its lookahead below `words`.
-    pub fn reduce(&mut self, rule: usize, lookahead: WordSet, words: usize)
+    pub(crate) fn reduce(&mut self, rule: usize, lookahead: WordSet, words: usize)
         requires { ⌜ words ≤ 64 ⌝ ∗ ⌜ rule ≤ 96 ⌝ }
         ensures { λ _. ⌜ now (self .exit) ≡ reduced lookahead rule words (now (self .entry)) ⌝ }
     {

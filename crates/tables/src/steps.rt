@@ -12,7 +12,7 @@ pub struct Steps {
 
 impl Steps {
     // One step more.
-    pub fn push(&mut self, source: usize, target: usize)
+    pub(crate) fn push(&mut self, source: usize, target: usize)
         requires { ⌜ now self .count < 73728 ⌝ ∗ ⌜ source < 2304 ⌝ ∗ ⌜ target < 2304 ⌝ }
         ensures { λ _. ⌜ Pushed (now (self .entry)) (now (self .exit)) source target ⌝ }
     {

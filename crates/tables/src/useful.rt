@@ -92,7 +92,7 @@ fn lowest_unmarked(rules: &Rules, productive: &[bool; 88], used: &[Mark; 88]) ->
 }
 
 // The lowest nonterminal that derives no list of words, or that the start does not use.
-pub fn useless(rules: &Rules) -> Option<u8>
+pub(crate) fn useless(rules: &Rules) -> Option<u8>
     ensures { λ r. ⌜ Cases r (AllUseful (grammarOf (now (rules .entry)))) (λ X. LowestUseless (grammarOf (now (rules .entry))) X) ⌝ }
 {
     lowest_unmarked(rules, &productive(rules), &used(rules))
