@@ -2,7 +2,7 @@
 use console::MOST;
 use std::io;
 
-pub fn usage(rt: &LibcRuntime) -> io::Result<()> {
+pub(crate) fn usage(rt: &LibcRuntime) -> io::Result<()> {
     println!(rt, "usage: sheetpack <SHEET")?;
     println!(
         rt,
