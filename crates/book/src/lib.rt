@@ -1,4 +1,6 @@
 // A book takes 16-bit numbers at its end until no more are free; its pages are lent memory.
+#![tactic(auto)]
+
 mod book;
 mod entry;
 mod number_page;

@@ -1,4 +1,6 @@
 // What the programs share at their edge: input of a bounded length.
+#![tactic(auto)]
+
 ghost use Rattle.std.specs.Prelude.{◌≤◌, length, IfOk};
 
 use std::io;

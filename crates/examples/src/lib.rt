@@ -1,4 +1,6 @@
 // Worked examples, which the checker computes.
+#![tactic(auto)]
+
 ghost use Rattle.examples.specs.Worked.{Worked};
 ghost use Rattle.std.specs.Prelude.{◌≡◌};
 

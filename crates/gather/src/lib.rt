@@ -1,4 +1,6 @@
 // Gathering: each place of a list ends with the join of its own seed and the seeds of all places that it reaches.
+#![tactic(auto)]
+
 mod bits;
 mod join;
 mod mark;

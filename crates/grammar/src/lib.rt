@@ -1,4 +1,6 @@
 // The subject's own words: grammars, actions and refusals.
+#![tactic(auto)]
+
 mod action;
 mod numbering;
 mod refusal;

@@ -1,4 +1,6 @@
 // A designer's line, and its turns: a word brought to it, and its judging.
+#![tactic(auto)]
+
 mod line;
 mod machine;
 mod readings;

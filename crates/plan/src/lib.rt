@@ -1,4 +1,6 @@
 // A plan: eight designers' lines, a book, and the turns.
+#![tactic(auto)]
+
 mod entry;
 mod lines;
 mod plan;

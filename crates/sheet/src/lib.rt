@@ -1,4 +1,6 @@
 // Rule sheets: what any sheet tells, and the kinds that are packed or made of another.
+#![tactic(auto)]
+
 mod own_rule;
 mod packed;
 mod packing;

@@ -1,9 +1,11 @@
 // Rule sheets of every kind, tried on examples and corners.
+#![tactic(auto)]
+
 #[cfg(test)]
 mod packed;
 #[cfg(test)]
 mod supplement;
 #[cfg(test)]
-mod written;
-#[cfg(test)]
 mod written_meaning;
+#[cfg(test)]
+mod written_sheet;

@@ -1,4 +1,6 @@
 // Packs the written rule sheet on standard input, or says where it is wrong.
+#![tactic(auto)]
+
 use console::{MOST, fill};
 use grammar::Refusal;
 use sheet::{PackedSheet, RuleSheet, pack};

@@ -1,4 +1,6 @@
 // From a rule sheet to its LALR(1) tables, stage by stage.
+#![tactic(auto)]
+
 mod cells;
 mod closure;
 mod conflict;

@@ -1,4 +1,6 @@
 // Rule sheets that are written as text.
+#![tactic(auto)]
+
 mod draft;
 mod form;
 mod lexer;
