@@ -5,7 +5,7 @@ use super::book::Book;
 
 // Puts all the numbers, or none where fewer are free.
 pub fn enter<B: Book>(book: &mut B, numbers: &[u16]) -> bool
-    ensures { Entered list free grows book.old numbers.now result book.new }
+    ensures { Entered B.list B.free B.grows book.old numbers.now result book.new }
 {
     if numbers.len() > book.free() as usize {
         return false;
@@ -16,8 +16,8 @@ pub fn enter<B: Book>(book: &mut B, numbers: &[u16]) -> bool
 
 // Puts the numbers, of which so many are free.
 fn put_all<B: Book>(book: &mut B, numbers: &[u16])
-    requires { length numbers.now ≤ free book.old }
-    ensures { Entered list free grows book.old numbers.now true book.new }
+    requires { length numbers.now ≤ B.free book.old }
+    ensures { Entered B.list B.free B.grows book.old numbers.now true book.new }
 {
     for number in numbers {
         let _ = book.put(*number);

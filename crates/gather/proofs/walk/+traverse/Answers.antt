@@ -24,8 +24,8 @@ traverse-high-requires g t c κs within =
     let turn = c.loop-t.invariant c.requires.0 _ (push c.requires.1 c.requires.2 c.requires.3) in
     (omega (arith, c.decreases, turn.kept.fewer), (within.0, (within.1, (c.requires.0, turn.sound, omega (arith, c.requires.1.size, c.if-t-n.true), c.if-marks-t-eq0.true))))
 
-pub overflow-add-k : goal.overflow-add-k
-overflow-add-k g t c = omega (arith, (nth_some _ c.loop-t.k c.in-Some.t c.in-Some.ensures.told).0, c.next.ensures.short)
+pub overflow_add-k : goal.overflow_add-k
+overflow_add-k g t c = omega (arith, (nth_some _ c.loop-t.k c.in-Some.t c.in-Some.ensures.told).0, c.next.ensures.short)
 
 pub loop-t-smaller : goal.loop-t-smaller
 loop-t-smaller g t c = omega (arith, (nth_some _ c.loop-t.k c.in-Some.t c.in-Some.ensures.told).0)
@@ -68,10 +68,10 @@ returns-then-marks-x g t c = λ seeds w.
     let long = turn.sound.size in
     let in_x : c.args.x < length c.loop-t.values = omega (arith, c.requires.1.size, c.requires.2, w.size) in
     let v : c.index-values-x.result ≡ get_or c.loop-t.values c.args.x g.J.Join.none = get_or_read c.loop-t.values c.args.x c.index-values-x.result in_x c.index-values-x.is g.J.Join.none in
-    pop (laws g) turn (nth_none _ c.loop-t.k c.in-default.ensures.told) c.if-marks-x.true c.close.new.values c.close.new.marks (omega arith) (omega arith)
+    pop (laws g) turn (nth_none _ c.loop-t.k c.in_default.ensures.told) c.if-marks-x.true c.close.new.values c.close.new.marks (omega arith) (omega arith)
     (subst (λ y. Closed g.J.Join.none y c.loop-t.stack c.loop-t.marks c.close.new.marks c.loop-t.values c.close.new.values c.args.top c.loop-t.high) v c.close.ensures) w
 
 pub returns-else-marks-x : goal.returns-else-marks-x
 returns-else-marks-x g t c = λ seeds w.
     let turn = c.loop-t.invariant seeds _ (push w (omega (arith, c.requires.1.size, c.requires.2, w.size)) c.requires.3) in
-    stay (laws g) turn (nth_none _ c.loop-t.k c.in-default.ensures.told) c.if-marks-x.false
+    stay (laws g) turn (nth_none _ c.loop-t.k c.in_default.ensures.told) c.if-marks-x.false

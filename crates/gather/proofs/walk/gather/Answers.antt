@@ -8,11 +8,11 @@ use Rattle.gather.proofs.walk.gather.Goals as goal
 laws : (g : given.Over) → Lattice g.J.Join.op
 laws g = record { idem = g.met.J.Join.idem; comm = g.met.J.Join.comm; assoc = g.met.J.Join.assoc }
 
-pub walk-all-requires : goal.walk-all-requires
-walk-all-requires g c = begin (laws g) _ _ (length-replicate {A = ℕ} 2304 0) (length-replicate {A = ℕ} 2304 0) (λ p l. get_or-replicate {A = ℕ} 2304 p 0 0 l) (omega arith)
+pub walk_all-requires : goal.walk_all-requires
+walk_all-requires g c = begin (laws g) _ _ (length-replicate {A = ℕ} 2304 0) (length-replicate {A = ℕ} 2304 0) (λ p l. get_or-replicate {A = ℕ} 2304 p 0 0 l) (omega arith)
 
 pub returns : goal.returns
 returns g c = record {
   refused = λ h. absurd (omega arith);
-  gathered = λ h. (refl, finish (laws g) c.walk-all.ensures.sound c.walk-all.ensures.done);
+  gathered = λ h. (refl, finish (laws g) c.walk_all.ensures.sound c.walk_all.ensures.done);
 }

@@ -4,10 +4,10 @@ use Rattle.sheet.proofs.OffLayout.{all_lie, not_lying, told_at}
 use Rattle.sheet.proofs.Packings.{lies_more}
 use Rattle.sheet.proofs.packed.bodies_end.Goals as goal
 
-pub returns-in-default : goal.returns-in-default
-returns-in-default c = (
+pub returns-in_default : goal.returns-in_default
+returns-in_default c = (
   c.loop-rule-test.true,
-  told_at c.args.numbers.now (c.loop-rule.rule + 1) (lowest c.requires.listed (omega arith) c.loop-rule.invariant.2 (not_lying c.args.numbers.now c.loop-rule.rule c.loop-rule.at c.loop-rule.invariant.0 c.in-default.ensures)),
+  told_at c.args.numbers.now (c.loop-rule.rule + 1) (lowest c.requires.listed (omega arith) c.loop-rule.invariant.2 (not_lying c.args.numbers.now c.loop-rule.rule c.loop-rule.at c.loop-rule.invariant.0 c.in_default.ensures)),
 )
 
 pub loop-rule-preserved : goal.loop-rule-preserved

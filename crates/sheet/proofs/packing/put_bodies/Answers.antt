@@ -9,8 +9,8 @@ use Rattle.sheet.proofs.packing.put_bodies.Goals as goal
 pub loop-i-preserved : goal.loop-i-preserved
 loop-i-preserved g c =
     let G = g.S.RuleSheet.meaning c.args.sheet.now in (
-      c.put-body-at.ensures.end,
-      front_on (packed G) c.args.out.now c.loop-i.at c.loop-i.out c.put-body-at.result c.put-body-at.new.out c.loop-i.invariant.1 (omega (arith, end_up G c.loop-i.i (omega arith))) c.put-body-at.ensures.front,
+      c.put_body-at.ensures.end,
+      front_on (packed G) c.args.out.now c.loop-i.at c.loop-i.out c.put_body-at.result c.put_body-at.new.out c.loop-i.invariant.1 (omega (arith, end_up G c.loop-i.i (omega arith))) c.put_body-at.ensures.front,
     )
 
 pub returns : goal.returns

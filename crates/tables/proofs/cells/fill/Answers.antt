@@ -8,7 +8,7 @@ loop-state-init c = rows_none c.args.rules.now c.args.states.now
 
 pub loop-state-preserved : goal.loop-state-preserved
 loop-state-preserved c =
-    rows_more c.args.rules.now c.args.states.now c.loop-state.state c.loop-state-test.true c.loop-state.cells c.loop-state.invariant c.fill-row-row.result c.fill-row-row.ensures c.in-default.is
+    rows_more c.args.rules.now c.args.states.now c.loop-state.state c.loop-state-test.true c.loop-state.cells c.loop-state.invariant c.fill_row-row.result c.fill_row-row.ensures c.in_default.is
 
 pub returns : goal.returns
 returns c =
@@ -18,4 +18,4 @@ returns c =
 
 pub returns-in-Some : goal.returns-in-Some
 returns-in-Some c =
-    first_conflict c.args.rules.now c.args.states.now c.loop-state.state c.loop-state-test.true c.loop-state.cells c.loop-state.invariant c.fill-row-row.result c.fill-row-row.ensures c.in-Some.conflict c.in-Some.is
+    first_conflict c.args.rules.now c.args.states.now c.loop-state.state c.loop-state-test.true c.loop-state.cells c.loop-state.invariant c.fill_row-row.result c.fill_row-row.ensures c.in-Some.conflict c.in-Some.is

@@ -2,7 +2,7 @@ use Rattle.std.proofs.Common.{◌≡◌, ◌+◌, ◌*◌, ◌≤◌, sym, subst
 use Rattle.tables.specs.RowMeaning.{RowUpto}
 use Rattle.tables.proofs.FilledStates.{row_rule, row_no_rule, last_word}
 use Rattle.tables.proofs.cells.fill_row.Goals as goal
-use Rattle.tables.proofs.cells.fill_row.Goals.{in-Some, in-default}
+use Rattle.tables.proofs.cells.fill_row.Goals.{in-Some, in_default}
 
 pub loop-rule-preserved : goal.loop-rule-preserved
 loop-rule-preserved c =
@@ -18,5 +18,5 @@ loop-rule-preserved c =
           subst (λ t. RowUpto R S s (64 * (r + 1)) t) (sym w.row-is)
           (subst (λ t. RowUpto R S s (64 * (r + 1)) t) (sym w.reduce.ensures)
           (last_word R S s r (R.terminals + 1) _ (omega arith) (omega (arith, R.terminals63)) (row_rule R S s l c.requires.lookaheads c.requires.state r c.loop-rule.auto.rule high w.in-Some.lookahead row (R.terminals + 1) (omega (arith, R.terminals63)) w.in-Some.is c.loop-rule.invariant)))
-      | in-default w ↦ subst (λ t. RowUpto R S s (64 * (r + 1)) t) (sym w.row-is) (row_no_rule R S s l c.requires.lookaheads c.requires.state r c.loop-rule.auto.rule high row w.in-default.is c.loop-rule.invariant)
+      | in_default w ↦ subst (λ t. RowUpto R S s (64 * (r + 1)) t) (sym w.row-is) (row_no_rule R S s l c.requires.lookaheads c.requires.state r c.loop-rule.auto.rule high row w.in_default.is c.loop-rule.invariant)
     ]

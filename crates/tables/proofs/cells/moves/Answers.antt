@@ -5,7 +5,7 @@ use Rattle.tables.specs.RowMeaning.{RowUpto}
 use Rattle.tables.proofs.Gotos.{goto_target}
 use Rattle.tables.proofs.FilledStates.{row_first, row_move, row_no_move, no_shift, no_accept, shift, accept, last_word}
 use Rattle.tables.proofs.cells.moves.Goals as goal
-use Rattle.tables.proofs.cells.moves.Goals.{then-at-end, else-at-end, in-Some, in-default}
+use Rattle.tables.proofs.cells.moves.Goals.{then-at_end, else-at_end, in-Some, in_default}
 
 empty : Row
 empty = record { cells = replicate 64 None; conflict = None }
@@ -17,13 +17,13 @@ loop-word-init c =
     let S = c.args.states.now in
     let s = c.args.state in
     let first = row_first R S s empty refl refl in
-    elim c.if-at-end.branch [
-      | then-at-end w ↦ (ap (λ (t : Row). t.conflict) w.row-is, subst (λ t. RowUpto R S s 1 t) (sym w.row-is) (row_move R S s 0 Accept empty (omega arith) refl (accept R S s c.requires (sym w.if-at-end.ensures)) refl first))
-      | else-at-end w ↦ (ap (λ (t : Row). t.conflict) w.row-is, subst (λ t. RowUpto R S s 1 t) (sym w.row-is) (row_no_move R S s 0 empty (omega arith) (no_accept R S s (sym w.if-at-end.ensures)) first))
+    elim c.if-at_end.branch [
+      | then-at_end w ↦ (ap (λ (t : Row). t.conflict) w.row-is, subst (λ t. RowUpto R S s 1 t) (sym w.row-is) (row_move R S s 0 Accept empty (omega arith) refl (accept R S s c.requires (sym w.if-at_end.ensures)) refl first))
+      | else-at_end w ↦ (ap (λ (t : Row). t.conflict) w.row-is, subst (λ t. RowUpto R S s 1 t) (sym w.row-is) (row_no_move R S s 0 empty (omega arith) (no_accept R S s (sym w.if-at_end.ensures)) first))
     ]
 
-pub overflow-cast-row : goal.overflow-cast-row
-overflow-cast-row c =
+pub overflow_cast-row : goal.overflow_cast-row
+overflow_cast-row c =
     let S = c.args.states.now in
     omega (arith, goto_target c.args.rules.now S c.args.state c.loop-word.word c.in-Some.target c.in-Some.ensures, S.few)
 
@@ -40,10 +40,10 @@ loop-word-preserved c =
         subst (λ t. RowUpto R S s (w + 1) t) (sym v.row-is)
             (row_move R S s w (Shift v.in-Some.target) row (omega (arith, c.loop-word-test.true, R.terminals63)) refl (shift R S s w v.in-Some.target c.loop-word.auto.word (omega (arith, c.loop-word-test.true)) v.in-Some.ensures) c.loop-word.invariant.0 c.loop-word.invariant.1),
       )
-      | in-default v ↦ (
+      | in_default v ↦ (
         ap (λ (t : Row). t.conflict) v.row-is ∙ c.loop-word.invariant.0,
         subst (λ t. RowUpto R S s (w + 1) t) (sym v.row-is)
-            (row_no_move R S s w row (omega (arith, c.loop-word-test.true, R.terminals63)) (no_shift R S s w c.loop-word.auto.word v.in-default.ensures) c.loop-word.invariant.1),
+            (row_no_move R S s w row (omega (arith, c.loop-word-test.true, R.terminals63)) (no_shift R S s w c.loop-word.auto.word v.in_default.ensures) c.loop-word.invariant.1),
       )
     ]
 

@@ -13,8 +13,8 @@ loop-q-preserved c =
     let q = c.loop-q.q in
     let X = get_or R.left q 0 in
     elim c.if-begins.branch [
-      | then-begins w ↦ subst (λ y. Filled R xs (q + 1) y) (sym w.items-is) (filled_more R xs q c.loop-q.items c.loop-q.auto.q (omega arith) c.loop-q.invariant (c.ahead-of-ahead.ensures.sound X (c.begins.ensures.yes w.if-begins.true)))
-      | else-begins w ↦ subst (λ y. Filled R xs (q + 1) y) (sym w.items-is) (filled_skip R xs q c.loop-q.items c.loop-q.invariant λ a. c.begins.ensures.no w.if-begins.false (c.ahead-of-ahead.ensures.whole X (omega (arith, R.lefts q c.loop-q.auto.q (omega arith))) a))
+      | then-begins w ↦ subst (λ y. Filled R xs (q + 1) y) (sym w.items-is) (filled_more R xs q c.loop-q.items c.loop-q.auto.q (omega arith) c.loop-q.invariant (c.ahead_of-ahead.ensures.sound X (c.begins.ensures.yes w.if-begins.true)))
+      | else-begins w ↦ subst (λ y. Filled R xs (q + 1) y) (sym w.items-is) (filled_skip R xs q c.loop-q.items c.loop-q.invariant λ a. c.begins.ensures.no w.if-begins.false (c.ahead_of-ahead.ensures.whole X (omega (arith, R.lefts q c.loop-q.auto.q (omega arith))) a))
     ]
 
 pub returns : goal.returns

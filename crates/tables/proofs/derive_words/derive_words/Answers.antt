@@ -8,7 +8,7 @@ use Rattle.tables.proofs.DerivingRounds.{Sofar, begun, fewer, round, all_rounds,
 use Rattle.tables.proofs.derive_words.derive_words.Goals as goal
 
 pub loop-r-init : goal.loop-r-init
-loop-r-init c = begun c.args.rules.now c.args.words c.first-codes-marks.result c.requires (omega arith) c.first-codes-marks.ensures
+loop-r-init c = begun c.args.rules.now c.args.words c.first_codes-marks.result c.requires (omega arith) c.first_codes-marks.ensures
 
 pub loop-r-smaller : goal.loop-r-smaller
 loop-r-smaller c =
@@ -21,7 +21,7 @@ loop-r-preserved c =
 pub returns : goal.returns
 returns c =
     let R = c.args.rules.now in
-    let m = all_rounds R c.args.words c.loop-r.marks c.loop-r.invariant c.in-default.ensures in
+    let m = all_rounds R c.args.words c.loop-r.marks c.loop-r.invariant c.in_default.ensures in
     record {
       exact = m;
       none = λ e. nullable_marks (grammar_of R) c.loop-r.marks (subst (λ n. MarksOf (DerivesWords (grammar_of R) n) c.loop-r.marks) e m);

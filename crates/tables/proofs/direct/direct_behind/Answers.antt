@@ -3,8 +3,8 @@ use Rattle.tables.proofs.Transitions.{behind_place}
 use Rattle.tables.proofs.DirectWords.{words_behind, words_nowhere}
 use Rattle.tables.proofs.direct.direct_behind.Goals as goal
 
-pub offset-bounds-direct-state : goal.offset-bounds-direct-state
-offset-bounds-direct-state c = omega (arith, behind_place c.args.rules.now c.args.states.now c.args.place c.in-Some.state c.in-Some.ensures, c.args.states.now.few)
+pub offset_bounds-direct-state : goal.offset_bounds-direct-state
+offset_bounds-direct-state c = omega (arith, behind_place c.args.rules.now c.args.states.now c.args.place c.in-Some.state c.in-Some.ensures, c.args.states.now.few)
 
 pub bounds-direct-state : goal.bounds-direct-state
 bounds-direct-state c = omega (arith, behind_place c.args.rules.now c.args.states.now c.args.place c.in-Some.state c.in-Some.ensures, c.args.states.now.few)

@@ -12,7 +12,7 @@ loop-place-preserved c =
     let S = c.args.states.now in
     let l = c.loop-place.sets in
     let i = c.loop-place.place in
-    (length-set l i c.direct-behind.result ∙ c.loop-place.invariant.0, sets_more (DirectAt R S) l i 64 c.direct-behind.result (omega (arith, c.loop-place.invariant.0)) (λ w d. omega (arith, behind_below R S i w d, R.terminals63)) c.loop-place.invariant.1 c.direct-behind.ensures)
+    (length-set l i c.direct_behind.result ∙ c.loop-place.invariant.0, sets_more (DirectAt R S) l i 64 c.direct_behind.result (omega (arith, c.loop-place.invariant.0)) (λ w d. omega (arith, behind_below R S i w d, R.terminals63)) c.loop-place.invariant.1 c.direct_behind.ensures)
 
 pub loop-place-init : goal.loop-place-init
 loop-place-init c = (refl, sets_none _ _)

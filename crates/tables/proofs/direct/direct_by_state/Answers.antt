@@ -12,7 +12,7 @@ loop-state-preserved c =
     let S = c.args.states.now in
     let l = c.loop-state.sets in
     let s = c.loop-state.state in
-    (length-set l s c.direct-words.result ∙ c.loop-state.invariant.0, sets_more (DirectIn R S) l s 64 c.direct-words.result (omega (arith, c.loop-state.invariant.0, S.few)) (λ w d. omega (arith, direct_below R S s w d, R.terminals63)) c.loop-state.invariant.1 c.direct-words.ensures)
+    (length-set l s c.direct_words.result ∙ c.loop-state.invariant.0, sets_more (DirectIn R S) l s 64 c.direct_words.result (omega (arith, c.loop-state.invariant.0, S.few)) (λ w d. omega (arith, direct_below R S s w d, R.terminals63)) c.loop-state.invariant.1 c.direct_words.ensures)
 
 pub loop-state-init : goal.loop-state-init
 loop-state-init c = (refl, sets_none _ _)

@@ -7,7 +7,7 @@ use Rattle.tables.proofs.Answered.{told_some, told_none}
 use Rattle.tables.proofs.WordSets.{words_one, words_none, words_more, words_skip, words_all}
 use Rattle.tables.proofs.DirectWords.{direct_end, no_direct_end, direct_word, no_direct_word, direct_below}
 use Rattle.tables.proofs.direct.direct_words.Goals as goal
-use Rattle.tables.proofs.direct.direct_words.Goals.{then-at-end, else-at-end, then-is-some, else-is-some}
+use Rattle.tables.proofs.direct.direct_words.Goals.{then-at_end, else-at_end, then-is_some, else-is_some}
 
 pub loop-word-preserved : goal.loop-word-preserved
 loop-word-preserved c =
@@ -15,14 +15,14 @@ loop-word-preserved c =
     let S = c.args.states.now in
     let s = c.args.state in
     let w = c.loop-word.word in
-    elim c.if-is-some.branch [
-      | then-is-some v ↦
-          (let t = told_some c.goto.result ((automaton R S).goto s w) c.goto.ensures v.if-is-some.ensures in
+    elim c.if-is_some.branch [
+      | then-is_some v ↦
+          (let t = told_some c.goto.result ((automaton R S).goto s w) c.goto.ensures v.if-is_some.ensures in
           subst (λ x. WordsBelow (DirectIn R S s) (w + 1) x) (sym v.words-is)
           (words_more (DirectIn R S s) w c.loop-word.words v.union-words.result (λ k. v.union-words.ensures.members k ∙ ap (λ b. has c.loop-word.words k || b) (v.one.ensures k)) (omega (arith, c.loop-word-test.true, R.terminals63)) (direct_word R S s w t.0 (omega (arith, c.loop-word.auto.word)) (omega (arith, c.loop-word-test.true)) t.1) c.loop-word.invariant))
-      | else-is-some v ↦
+      | else-is_some v ↦
           subst (λ x. WordsBelow (DirectIn R S s) (w + 1) x) (sym v.words-is)
-          (words_skip (DirectIn R S s) w c.loop-word.words (no_direct_word R S s w (omega (arith, c.loop-word.auto.word)) (told_none c.goto.result ((automaton R S).goto s w) c.goto.ensures v.if-is-some.ensures)) c.loop-word.invariant)
+          (words_skip (DirectIn R S s) w c.loop-word.words (no_direct_word R S s w (omega (arith, c.loop-word.auto.word)) (told_none c.goto.result ((automaton R S).goto s w) c.goto.ensures v.if-is_some.ensures)) c.loop-word.invariant)
     ]
 
 pub returns : goal.returns
@@ -36,9 +36,9 @@ loop-word-init c =
     let R = c.args.rules.now in
     let S = c.args.states.now in
     let s = c.args.state in
-    elim c.if-at-end.branch [
-      | then-at-end v ↦ subst (λ x. WordsBelow (DirectIn R S s) 1 x) (sym v.words-is) (words_one (DirectIn R S s) v.one-words.result v.one-words.ensures (direct_end R S s c.requires (sym v.if-at-end.ensures)))
-      | else-at-end v ↦
+    elim c.if-at_end.branch [
+      | then-at_end v ↦ subst (λ x. WordsBelow (DirectIn R S s) 1 x) (sym v.words-is) (words_one (DirectIn R S s) v.one-words.result v.one-words.ensures (direct_end R S s c.requires (sym v.if-at_end.ensures)))
+      | else-at_end v ↦
           subst (λ x. WordsBelow (DirectIn R S s) 1 x) (sym v.words-is)
-          (words_skip (DirectIn R S s) 0 v.empty-words.result (no_direct_end R S s (sym v.if-at-end.ensures)) (words_none (DirectIn R S s) v.empty-words.result v.empty-words.ensures))
+          (words_skip (DirectIn R S s) 0 v.empty-words.result (no_direct_end R S s (sym v.if-at_end.ensures)) (words_none (DirectIn R S s) v.empty-words.result v.empty-words.ensures))
     ]

@@ -8,14 +8,14 @@ use Rattle.tables.proofs.limits.sides.Goals as goal
 pub loop-rule-init : goal.loop-rule-init
 loop-rule-init g c = sides_first (g.S.RuleSheet.meaning c.args.sheet.now) c.terminals-terminals.result c.terminals-terminals.ensures
 
-pub returns-then-not-is-nonterminal : goal.returns-then-not-is-nonterminal
-returns-then-not-is-nonterminal g c =
+pub returns-then-not-is_nonterminal : goal.returns-then-not-is_nonterminal
+returns-then-not-is_nonterminal g c =
     let G = g.S.RuleSheet.meaning c.args.sheet.now in
     let r = c.loop-rule.rule in
-    let is = left_read G r c.or-zero-side.result c.left.result (omega arith) c.or-zero-side.ensures c.left.ensures in
-    subst (λ e. Outcome G (refused e)) (sym c.out-of-range.ensures)
+    let is = left_read G r c.or_zero-side.result c.left.result (omega arith) c.or_zero-side.ensures c.left.ensures in
+    subst (λ e. Outcome G (refused e)) (sym c.out_of_range.ensures)
     (out_of_range c.requires.within (lowest G r c.loop-rule.left c.loop-rule.right c.loop-rule.invariant (omega arith) (omega arith)
-    λ range. c.is-nonterminal.ensures.no c.if-not-is-nonterminal.true (omega (arith, range.left.low, is)) (omega (arith, range.left.high, is))))
+    λ range. c.is_nonterminal.ensures.no c.if-not-is_nonterminal.true (omega (arith, range.left.low, is)) (omega (arith, range.left.high, is))))
 
 pub codes-requires : goal.codes-requires
 codes-requires g c =
@@ -31,7 +31,7 @@ pub returns-then-not-codes : goal.returns-then-not-codes
 returns-then-not-codes g c =
     let G = g.S.RuleSheet.meaning c.args.sheet.now in
     let r = c.loop-rule.rule in
-    subst (λ e. Outcome G (refused e)) (sym c.out-of-range-then-not-codes.ensures)
+    subst (λ e. Outcome G (refused e)) (sym c.out_of_range-then-not-codes.ensures)
     (out_of_range c.requires.within (lowest G r c.loop-rule.left c.loop-rule.right c.loop-rule.invariant (omega arith) (omega arith)
     (λ range. c.if-not-codes.ensures range.right)))
 
@@ -40,14 +40,14 @@ loop-rule-preserved g c =
     let G = g.S.RuleSheet.meaning c.args.sheet.now in
     let r = c.loop-rule.rule in
     let b : r < suc (length G.rules) = omega arith in
-    let is = left_read G r c.or-zero-side.result c.left.result (omega arith) c.or-zero-side.ensures c.left.ensures in
-    let ok = c.is-nonterminal.ensures.yes c.if-not-is-nonterminal.false in
-    sides_more G r c.or-zero-side.result c.loop-rule.left c.loop-rule.right c.codes.new.right c.loop-rule.invariant (omega arith) (omega arith) is
+    let is = left_read G r c.or_zero-side.result c.left.result (omega arith) c.or_zero-side.ensures c.left.ensures in
+    let ok = c.is_nonterminal.ensures.yes c.if-not-is_nonterminal.false in
+    sides_more G r c.or_zero-side.result c.loop-rule.left c.loop-rule.right c.codes.new.right c.loop-rule.invariant (omega arith) (omega arith) is
     (record { low = omega (arith, ok.0); high = omega (arith, ok.1) })
     (omega (arith, c.requires.lengths.below r b, c.requires.lengths.short r b)) c.if-not-codes.ensures
 
-pub invariant-of-result : goal.invariant-of-result
-invariant-of-result g c =
+pub invariant_of-result : goal.invariant_of-result
+invariant_of-result g c =
     let G = g.S.RuleSheet.meaning c.args.sheet.now in
     let W = c.requires.within in
     let t = c.terminals-terminals.result in

@@ -12,20 +12,20 @@ returns-in-Some c =
     let q = c.args.state in
     let r = c.args.rule in
     let X = get_or R.left r 0 in
-    let t = told_some c.goto.result ((automaton R S).goto q X) c.goto.ensures c.if-is-some.ensures in
+    let t = told_some c.goto.result ((automaton R S).goto q X) c.goto.ensures c.if-is_some.ensures in
     let to = transition R S q X t.0 (R.lefts r c.requires.rule.0 c.requires.rule.1) t.1 in
     let s = c.in-Some.end in
     let w = c.in-Some.ensures in
     add R S q r c.requires.rule.0 c.requires.rule.1 c.args.sets.now c.requires.upto c.args.follow.now c.requires.follow to s w.1 (omega (arith, w.0, S.few)) c.joined.result c.joined.ensures
 
-pub returns-in-default : goal.returns-in-default
-returns-in-default c =
-    no_walk c.args.rules.now c.args.states.now c.args.state c.args.rule c.requires.rule.0 c.requires.rule.1 c.args.sets.now c.requires.upto c.in-default.ensures
+pub returns-in_default : goal.returns-in_default
+returns-in_default c =
+    no_walk c.args.rules.now c.args.states.now c.args.state c.args.rule c.requires.rule.0 c.requires.rule.1 c.args.sets.now c.requires.upto c.in_default.ensures
 
-pub returns-else-is-some : goal.returns-else-is-some
-returns-else-is-some c =
+pub returns-else-is_some : goal.returns-else-is_some
+returns-else-is_some c =
     let R = c.args.rules.now in
     let S = c.args.states.now in
     let q = c.args.state in
     let r = c.args.rule in
-    no_move R S q r c.requires.rule.0 c.requires.rule.1 c.args.sets.now c.requires.upto (told_none c.goto.result ((automaton R S).goto q (get_or R.left r 0)) c.goto.ensures c.if-is-some.ensures)
+    no_move R S q r c.requires.rule.0 c.requires.rule.1 c.args.sets.now c.requires.upto (told_none c.goto.result ((automaton R S).goto q (get_or R.left r 0)) c.goto.ensures c.if-is_some.ensures)

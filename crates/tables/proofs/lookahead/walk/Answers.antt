@@ -8,14 +8,14 @@ use Rattle.tables.proofs.lookahead.walk.Goals as goal
 pub loop-dot-init : goal.loop-dot-init
 loop-dot-init c = here
 
-pub returns-in-default : goal.returns-in-default
-returns-in-default c =
+pub returns-in_default : goal.returns-in_default
+returns-in_default c =
     let R = c.args.rules.now in
     let S = c.args.states.now in
     let q = c.args.state in
     let r = c.args.rule in
     λ s w.
-    walk_stops R S q r c.requires.1 c.loop-dot.dot (get_or R.size r 0) c.loop-dot.at s c.loop-dot-test.true c.loop-dot.invariant c.in-default.ensures c.loop-dot-test.true
+    walk_stops R S q r c.requires.1 c.loop-dot.dot (get_or R.size r 0) c.loop-dot.at s c.loop-dot-test.true c.loop-dot.invariant c.in_default.ensures c.loop-dot-test.true
     (subst (λ l. Leads (automaton R S) q l s) (sym (whole_side R S q r c.requires.1)) w)
 
 pub loop-dot-preserved : goal.loop-dot-preserved

@@ -8,8 +8,8 @@ pub loop-i-init : goal.loop-i-init
 unfolding cubes
 loop-i-init c = (refl, omega arith)
 
-pub overflow-add-sum : goal.overflow-add-sum
-overflow-add-sum c = omega (arith, cube_fits c.loop-i.i (omega arith), c.loop-i.invariant.1)
+pub overflow_add-sum : goal.overflow_add-sum
+overflow_add-sum c = omega (arith, cube_fits c.loop-i.i (omega arith), c.loop-i.invariant.1)
 
 pub loop-i-preserved : goal.loop-i-preserved
 loop-i-preserved c =

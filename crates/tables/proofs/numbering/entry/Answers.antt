@@ -35,8 +35,8 @@ returns-then-t-eq96 c =
       crowded = λ _. step_full R v.sofar v.state v.is (is_code R c.args.code c.requires.code.0 c.requires.code.1) c.complete.array_long (c.requires.waiting.from c.args.code c.if-not-ahead-code.false) c.advance-items.ensures c.complete.ensures c.place-t.ensures.placed c.if-t-eq96.true;
     }
 
-pub overflow-cast-t : goal.overflow-cast-t
-overflow-cast-t c = omega (arith, placed_below c.place-t.ensures.placed c.requires.row.sofar.high)
+pub overflow_cast-t : goal.overflow_cast-t
+overflow_cast-t c = omega (arith, placed_below c.place-t.ensures.placed c.requires.row.sofar.high)
 
 pub returns : goal.returns
 returns c =

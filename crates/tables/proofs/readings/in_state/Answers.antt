@@ -16,4 +16,4 @@ unfolding has_at
 returns c =
     let S = c.args.states.now in
     let s = c.args.state in
-    c.in-set.ensures ∙ sym (ap (λ t. t && items_of (state_at S.sets s) c.args.rule c.args.dot) (lt-ltb s S.count c.if-state-states.false))
+    c.in_set.ensures ∙ sym (ap (λ t. t && items_of (state_at S.sets s) c.args.rule c.args.dot) (lt-ltb s S.count c.if-state-states.false))

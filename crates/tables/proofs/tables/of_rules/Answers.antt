@@ -6,4 +6,4 @@ pub returns-in-Some : goal.returns-in-Some
 returns-in-Some c = useless_told c.args.rules c.in-Some.code c.in-Some.ensures
 
 pub returns-then-not-number : goal.returns-then-not-number
-returns-then-not-number c = crowded_told c.args.rules c.in-default.ensures (c.number.ensures.crowded c.if-not-number.true)
+returns-then-not-number c = crowded_told c.args.rules c.in_default.ensures (c.number.ensures.crowded c.if-not-number.true)

@@ -15,16 +15,16 @@ pub loop-found-preserved : goal.loop-found-preserved
 loop-found-preserved c = (
   c.in-Some.ensures.onward.1,
   left_more c.args.text.now c.loop-found.at _ _ c.in-Some.found c.in-Some.ensures.starts
-      (λ ts rest l e. e ∙ collect_more c.args.heads c.loop-found.between (placed_of c.in-Some.found.token).token (tokens rest) (spelled c.loop-found.out) (spelled c.note-token.new.out) c.between-after-between.result c.if-not-note-token.ensures c.between-after-between.ensures) c.loop-found.invariant.1,
+      (λ ts rest l e. e ∙ collect_more c.args.heads c.loop-found.between (placed_of c.in-Some.found.token).token (tokens rest) (spelled c.loop-found.out) (spelled c.note_token.new.out) c.between_after-between.result c.if-not-note_token.ensures c.between_after-between.ensures) c.loop-found.invariant.1,
 )
 
 pub loop-found-smaller : goal.loop-found-smaller
 loop-found-smaller c = let onward = c.in-Some.ensures.onward in omega (arith, onward.0, onward.1)
 
-pub returns-then-not-note-token : goal.returns-then-not-note-token
-returns-then-not-note-token c ts l =
+pub returns-then-not-note_token : goal.returns-then-not-note_token
+returns-then-not-note_token c ts l =
     let here = left_here c.args.text.now c.loop-found.at _ c.in-Some.found c.in-Some.ensures.starts c.loop-found.invariant.1 ts l in
-    subst (λ xs. 63 < length xs) (sym here.1) (collect_full c.args.heads c.loop-found.between (placed_of c.in-Some.found.token).token (tokens here.0) (spelled c.loop-found.out) (spelled c.note-token.new.out) c.if-not-note-token.ensures)
+    subst (λ xs. 63 < length xs) (sym here.1) (collect_full c.args.heads c.loop-found.between (placed_of c.in-Some.found.token).token (tokens here.0) (spelled c.loop-found.out) (spelled c.note_token.new.out) c.if-not-note_token.ensures)
 
 pub returns : goal.returns
-returns c ts l = sym (left_end c.args.text.now c.loop-found.at _ c.in-default.ensures.starts c.loop-found.invariant.1 ts l ∙ collect_none c.args.heads c.loop-found.between (spelled c.loop-found.out))
+returns c ts l = sym (left_end c.args.text.now c.loop-found.at _ c.in_default.ensures.starts c.loop-found.invariant.1 ts l ∙ collect_none c.args.heads c.loop-found.between (spelled c.loop-found.out))

@@ -13,16 +13,16 @@ pub loop-found-preserved : goal.loop-found-preserved
 loop-found-preserved c = (
   c.in-Some.ensures.onward.1,
   left_more c.args.text.now c.loop-found.at _ _ c.in-Some.found c.in-Some.ensures.starts
-      (λ ts rest l e. e ∙ headless_later (picked true true (tokens ts)) (placed_of c.in-Some.found.token) rest (sym (c.if-is-headless.ensures ts l))) c.loop-found.invariant.1,
+      (λ ts rest l e. e ∙ headless_later (picked true true (tokens ts)) (placed_of c.in-Some.found.token) rest (sym (c.if-is_headless.ensures ts l))) c.loop-found.invariant.1,
 )
 
 pub loop-found-smaller : goal.loop-found-smaller
 loop-found-smaller c = let onward = c.in-Some.ensures.onward in omega (arith, onward.0, onward.1)
 
-pub returns-then-is-headless : goal.returns-then-is-headless
-returns-then-is-headless c ts l =
+pub returns-then-is_headless : goal.returns-then-is_headless
+returns-then-is_headless c ts l =
     let here = left_here c.args.text.now c.loop-found.at _ c.in-Some.found c.in-Some.ensures.starts c.loop-found.invariant.1 ts l in
-    ap Some c.place-of.ensures ∙ sym (here.1 ∙ headless_here (picked true true (tokens ts)) (placed_of c.in-Some.found.token) here.0 (sym (c.if-is-headless.ensures ts l)))
+    ap Some c.place_of.ensures ∙ sym (here.1 ∙ headless_here (picked true true (tokens ts)) (placed_of c.in-Some.found.token) here.0 (sym (c.if-is_headless.ensures ts l)))
 
 pub returns : goal.returns
-returns c ts l = sym (left_end c.args.text.now c.loop-found.at _ c.in-default.ensures.starts c.loop-found.invariant.1 ts l ∙ headless_none (picked true true (tokens ts)))
+returns c ts l = sym (left_end c.args.text.now c.loop-found.at _ c.in_default.ensures.starts c.loop-found.invariant.1 ts l ∙ headless_none (picked true true (tokens ts)))

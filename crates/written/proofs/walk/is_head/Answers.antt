@@ -16,16 +16,16 @@ loop-found-preserved c =
     let onward = c.in-Some.ensures.onward in (
       onward.1,
       left_more c.args.text.now c.loop-found.at _ _ c.in-Some.found c.in-Some.ensures.starts
-          (λ ts rest l e. e ∙ member_later c.args.name.now c.loop-found.between c.between-after-between.result (placed_of c.in-Some.found.token).token (tokens rest) (sym c.if-begins-with.ensures) c.between-after-between.ensures) c.loop-found.invariant.1,
+          (λ ts rest l e. e ∙ member_later c.args.name.now c.loop-found.between c.between_after-between.result (placed_of c.in-Some.found.token).token (tokens rest) (sym c.if-begins_with.ensures) c.between_after-between.ensures) c.loop-found.invariant.1,
     )
 
 pub loop-found-smaller : goal.loop-found-smaller
 loop-found-smaller c = let onward = c.in-Some.ensures.onward in omega (arith, onward.0, onward.1)
 
-pub returns-then-begins-with : goal.returns-then-begins-with
-returns-then-begins-with c ts l =
+pub returns-then-begins_with : goal.returns-then-begins_with
+returns-then-begins_with c ts l =
     let here = left_here c.args.text.now c.loop-found.at _ c.in-Some.found c.in-Some.ensures.starts c.loop-found.invariant.1 ts l in
-    sym (here.1 ∙ member_picked c.args.name.now c.loop-found.between (placed_of c.in-Some.found.token).token (tokens here.0) ∙ or_left _ _ (sym c.if-begins-with.ensures))
+    sym (here.1 ∙ member_picked c.args.name.now c.loop-found.between (placed_of c.in-Some.found.token).token (tokens here.0) ∙ or_left _ _ (sym c.if-begins_with.ensures))
 
 pub returns : goal.returns
-returns c ts l = sym (left_end c.args.text.now c.loop-found.at _ c.in-default.ensures.starts c.loop-found.invariant.1 ts l ∙ member_none c.args.name.now c.loop-found.between)
+returns c ts l = sym (left_end c.args.text.now c.loop-found.at _ c.in_default.ensures.starts c.loop-found.invariant.1 ts l ∙ member_none c.args.name.now c.loop-found.between)

@@ -14,7 +14,7 @@ settle-requires g c = c.in-Ok.ensures.waiting
 pub returns-in-Ok : goal.returns-in-Ok
 returns-in-Ok g c =
     let p = c.args.self.now in
-    let q = c.judge-words.new.self in
+    let q = c.judge_words.new.self in
     let r = c.settle.new.self in
     let x = c.in-Ok.ensures in
     let y = c.settle.ensures in
@@ -33,7 +33,7 @@ returns-in-Ok g c =
 pub returns-in-Err : goal.returns-in-Err
 returns-in-Err g c =
     let p = c.args.self.now in
-    let q = c.judge-words.new.self in
+    let q = c.judge_words.new.self in
     let r = c.clear.new.self in
     let x = c.in-Err.ensures in
     let y = c.clear.ensures in

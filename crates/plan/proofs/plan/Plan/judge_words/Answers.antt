@@ -22,9 +22,9 @@ loop-word-preserved g c =
     let e = side g.B.Book.list g.B.Book.free r.lines r.booked r.book in
     let i = c.loop-word.word-index in
     let ws = c.args.words.now in
-    let n = c.in-default.field-0 in
+    let n = c.in_default.field-0 in
     let inv = c.loop-word.invariant in
-    let x = c.in-default.ensures in (
+    let x = c.in_default.ensures in (
       taken_more (held p.tables) c.args.designer ws i a b e inv.0 c.loop-word-test.true n (by_tables q.tables p.tables inv.1 b (word c.args.designer (get_or ws i 0) (given n) ∷ []) e x.law),
       x.kept.0 ∙ inv.1,
       x.kept.1 ∙ inv.2,

@@ -8,8 +8,8 @@ use Rattle.plan.proofs.SlipCalls.{still_waiting}
 use Rattle.plan.proofs.WholeLines.{side, MadeFrom, made_by_tables, settled_booked, settled_withdrawn}
 use Rattle.plan.proofs.plan.Plan.settle.Goals as goal
 
-pub take-back-requires : goal.take-back-requires
-take-back-requires g c =
+pub take_back-requires : goal.take_back-requires
+take_back-requires g c =
     let p = c.args.self.now in
     let q = c.book.new.self in
     let x = c.in-Err.ensures in
@@ -31,9 +31,9 @@ pub returns-in-Err : goal.returns-in-Err
 returns-in-Err g c =
     let p = c.args.self.now in
     let q = c.book.new.self in
-    let r = c.take-back.new.self in
+    let r = c.take_back.new.self in
     let x = c.in-Err.ensures in
-    let y = c.take-back.ensures in
+    let y = c.take_back.ensures in
     let b = g.B.Book in
     let m = side b.list b.free p.lines p.booked p.book in
     let n = side b.list b.free q.lines q.booked q.book in

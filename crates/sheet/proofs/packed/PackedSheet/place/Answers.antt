@@ -3,8 +3,8 @@ use Rattle.sheet.specs.Packing.{BodyAt}
 use Rattle.sheet.proofs.Bodies.{body_at, no_rule_past}
 use Rattle.sheet.proofs.packed.PackedSheet.place.Goals as goal
 
-pub returns-in-default : goal.returns-in-default
-returns-in-default c = no_rule_past c.args.self.now.numbers.now c.args.rule c.in-default.ensures
+pub returns-in_default : goal.returns-in_default
+returns-in_default c = no_rule_past c.args.self.now.numbers.now c.args.rule c.in_default.ensures
 
 pub returns : goal.returns
 returns c =

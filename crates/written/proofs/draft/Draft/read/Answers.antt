@@ -21,4 +21,4 @@ returns-then-not-take c ts l =
     (step, c.if-not-take.ensures, tokens here.0, here.1 ∙ draft_more (spelled c.args.words.now) (spelled c.args.heads.now) (drafted c.loop-found.self) step (placed_of c.in-Some.found.token).token (tokens here.0) refl)
 
 pub returns : goal.returns
-returns c ts l = sym (left_end c.args.text.now c.loop-found.at _ c.in-default.ensures.starts c.loop-found.invariant.1 ts l ∙ draft_none (spelled c.args.words.now) (spelled c.args.heads.now) (drafted c.loop-found.self))
+returns c ts l = sym (left_end c.args.text.now c.loop-found.at _ c.in_default.ensures.starts c.loop-found.invariant.1 ts l ∙ draft_none (spelled c.args.words.now) (spelled c.args.heads.now) (drafted c.loop-found.self))

@@ -12,13 +12,13 @@ pub loop-i-preserved : goal.loop-i-preserved
 loop-i-preserved c =
     let long = held_length (λ r. r.now) c.args.self.now.items c.args.self.now.count (omega arith) in
     let item = held_at (λ r. r.now) c.args.self.now.items c.args.self.now.count (omega arith) c.loop-i.i _ [] c.loop-i-test.true in
-    index_more c.args.spelling.now (spelled c.args.self.now) c.loop-i.i c.loop-i.invariant (omega arith) (ap (bytes_eq c.args.spelling.now) item ∙ sym c.if-same-bytes.ensures)
+    index_more c.args.spelling.now (spelled c.args.self.now) c.loop-i.i c.loop-i.invariant (omega arith) (ap (bytes_eq c.args.spelling.now) item ∙ sym c.if-same_bytes.ensures)
 
-pub returns-then-same-bytes : goal.returns-then-same-bytes
-returns-then-same-bytes c =
+pub returns-then-same_bytes : goal.returns-then-same_bytes
+returns-then-same_bytes c =
     let long = held_length (λ r. r.now) c.args.self.now.items c.args.self.now.count (omega arith) in
     let item = held_at (λ r. r.now) c.args.self.now.items c.args.self.now.count (omega arith) c.loop-i.i _ [] c.loop-i-test.true in
-    let value = index_here c.args.spelling.now (spelled c.args.self.now) c.loop-i.i c.loop-i.invariant (omega arith) (ap (bytes_eq c.args.spelling.now) item ∙ sym c.if-same-bytes.ensures) in
+    let value = index_here c.args.spelling.now (spelled c.args.self.now) c.loop-i.i c.loop-i.invariant (omega arith) (ap (bytes_eq c.args.spelling.now) item ∙ sym c.if-same_bytes.ensures) in
     record { value = value; few = omega arith }
 
 pub returns : goal.returns

@@ -12,8 +12,8 @@ returns-then-not-collect c ts ss w within = omega (arith, c.if-not-collect.ensur
 pub returns-then-not-collect-2 : goal.returns-then-not-collect-2
 returns-then-not-collect-2 c ts ss w within = omega (arith, c.if-not-collect-2.ensures ts w.laid, ap length (heads_found c.args.text.now ts ss w), within.nonterminals)
 
-pub returns-then-not-counts-within : goal.returns-then-not-counts-within
-returns-then-not-counts-within c ts ss w within =
+pub returns-then-not-counts_within : goal.returns-then-not-counts_within
+returns-then-not-counts_within c ts ss w within =
     let words : spelled c.collect.new.out ≡ terminals_of ss = c.if-not-collect.ensures ts w.laid ∙ words_found c.args.text.now ts ss w in
     let heads : spelled c.collect-2.new.out ≡ nonterminals_of ss = c.if-not-collect-2.ensures ts w.laid ∙ heads_found c.args.text.now ts ss w in
     let n_words = c.count-words.ensures.value ∙ ap length words in
@@ -21,7 +21,7 @@ returns-then-not-counts-within c ts ss w within =
     let some_word = within.some_terminal in
     let some_head = within.some_nonterminal in
     let few_heads = within.nonterminals in
-    let not_so : false ≡ true = c.if-not-counts-within.ensures.1 (omega arith, omega arith, omega arith) in
+    let not_so : false ≡ true = c.if-not-counts_within.ensures.1 (omega arith, omega arith, omega arith) in
     let z : ◌≡◌ {A = ℕ} 0 1 = cc in
     omega arith
 
@@ -46,5 +46,5 @@ returns c ts ss w =
     let n_words = c.count-words.ensures.value in
     let n_heads = c.count-heads.ensures.value in
     let n_rules = c.count-rules.ensures.value in
-    let counts = c.if-not-counts-within.ensures.0 refl in
+    let counts = c.if-not-counts_within.ensures.0 refl in
     sheet_filled c.args.text.now ts ss w (spelled c.collect.new.out) (spelled c.collect-2.new.out) (rule_list c.read.new.self.table) words heads rules (omega arith) (omega arith) (omega arith) (omega arith) (omega arith) (omega arith) (table_short c.read.new.self.table)
