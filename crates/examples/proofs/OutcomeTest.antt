@@ -11,7 +11,7 @@ use Rattle.grammar.specs.declared.action.Action.{Action}
 use Rattle.examples.specs.Tables.{same_pair, automaton, cells}
 use Rattle.examples.proofs.Tests.{all, implies, all_at, pairs, mem_from, mem_to, conj, passed}
 use Rattle.examples.proofs.Lookup.{mem_lookup, lookup_of}
-use Rattle.examples.proofs.LimitsTest.{limits_tests, in_range_ok, within, in_range}
+use Rattle.examples.proofs.LimitsTest.{limits_tests, in_range_ok, within, in_range_lem}
 use Rattle.examples.proofs.UsefulTest.{useful_tests, none_useless}
 use Rattle.examples.proofs.NullableTest.{nullable_tests}
 use Rattle.examples.proofs.GatherTest.{gather_tests}
@@ -110,7 +110,7 @@ module _ (G : Grammar) (c : Certificate) (ok : conj (groups G c) ≡ true) where
 
   is_sound : Sound G
   unfolding groups
-  is_sound = let p = passed (groups G c) ok in record { in_range = in_range G (p 1); useful = none_useless G c.productive c.used (p 2) }
+  is_sound = let p = passed (groups G c) ok in record { in_range = in_range_lem G (p 1); useful = none_useless G c.productive c.used (p 2) }
 
   stands : (k : Option Conflict) → verdict_ok c.tables.actions k ≡ true → Outcome G (outcome_by c.tables k)
   unfolding groups verdict_ok

@@ -52,5 +52,5 @@ returns c =
     let R = c.args.rules.now in
     let S = c.args.states.now in
     let w = c.loop-word.word in
-    last_word R S c.args.state 0 w c.loop-word.row c.loop-word-test.false (omega (arith, c.loop-word.auto.word_end (omega arith), R.terminals63))
+    last_word R S c.args.state 0 w c.loop-word.row c.loop-word-test.false (omega (arith, c.loop-word.auto.word-end (omega arith), R.terminals63))
     (subst (λ m. RowUpto R S c.args.state m c.loop-word.row) (let e : w ≡ 64 * 0 + w = omega arith in e) c.loop-word.invariant.1)

@@ -58,7 +58,26 @@ invariant_of-result g c =
     let m : Lengths G (suc p) c.args.size = subst (λ n. Lengths G n c.args.size) (let e : suc (length G.rules) ≡ suc p = omega arith in e) c.requires.lengths in
     let f : Sides G (suc p) c.loop-rule.left c.loop-rule.right = subst (λ n. Sides G n c.loop-rule.left c.loop-rule.right) last c.loop-rule.invariant in
     let q = kept G W t k p c.terminals-terminals.ensures kn c.rules.ensures c.args.size c.loop-rule.left c.loop-rule.right m f in
-    (omega (arith, W.some_terminal), (omega (arith, W.terminals), (omega (arith, W.some_nonterminal), (omega (arith, W.nonterminals), (omega (arith, W.some_rule), (omega (arith, W.rules), (f.left_places, (m.places, (f.right_places, (q.short, (q.lefts, (q.leftsbelow, (q.inside, (q.ended, (q.past, (q.below, (q.firstsize, (q.firstcode, tt))))))))))))))))))
+    record {
+      terminals1 = omega (arith, W.some_terminal);
+      terminals63 = omega (arith, W.terminals);
+      nonterminals1 = omega (arith, W.some_nonterminal);
+      nonterminals24 = omega (arith, W.nonterminals);
+      count1 = omega (arith, W.some_rule);
+      count96 = omega (arith, W.rules);
+      leftlength = f.left_places;
+      sizelength = m.places;
+      rightlength = f.right_places;
+      short = q.short;
+      lefts = q.lefts;
+      leftsbelow = q.leftsbelow;
+      inside = q.inside;
+      ended = q.ended;
+      past = q.past;
+      below = q.below;
+      firstsize = q.firstsize;
+      firstcode = q.firstcode;
+    }
 
 pub returns : goal.returns
 returns g c =
