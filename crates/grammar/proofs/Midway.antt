@@ -5,7 +5,7 @@ use Rattle.grammar.specs.Grammar.{Grammar, left_side, right_side}
 use Rattle.grammar.specs.States.{Automaton, Laws}
 use Rattle.grammar.specs.Cells.{Exact}
 use Rattle.grammar.specs.Machine.{Run, halt, reduce, Spells, bottom, push}
-use Rattle.grammar.specs.Line.{Line, stuck, full, shifted, accepted, noted, runs}
+use Rattle.grammar.specs.Line.{Line, stuck, full, shifted, accepted, runs}
 use Rattle.grammar.specs.declared.action.Action.{Action}
 use Rattle.grammar.specs.declared.action.Action.TheVariants.{Shift, Accept, Reduce}
 use Rattle.grammar.proofs.Runs.{then}

@@ -1,6 +1,5 @@
 -- What the machine has taken begins a sentence, where every nonterminal is productive.
 use Rattle.std.proofs.Common.{◌≡◌, ℕ, zero, suc, ◌≤◌, ◌⊎◌, List, [], ◌∷◌, ◌++◌, length, drop, sym, refl, ap, ◌∙◌, subst, subst₂, inl, inr, append_assoc, append-nil, arith}
-use mathlib.Core.Option.{some}
 use native.Mathlib.Decide.{dec_le}
 use lib.ListN.{get_or-eq_default}
 use Rattle.grammar.specs.Grammar.{Grammar, no_rule, IsTerminal, IsRule, IsNonterminal, AllCodes, Valid, left_side, right_side, start}

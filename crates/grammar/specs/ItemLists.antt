@@ -1,5 +1,5 @@
 -- Sets of items as lists of truth values, by item number: nine times the rule, and the dot.
-use Rattle.std.specs.Prelude.{◌≡◌, ℕ, ◌+◌, ◌*◌, ◌<◌, ◌≤◌, Bool, true, false, ◌&&◌, List, get_or, set, replicate, nat_lt, slice_index, slice_index_or, slice_set}
+use Rattle.std.specs.Prelude.{◌≡◌, ℕ, ◌+◌, ◌*◌, ◌<◌, ◌≤◌, Bool, true, false, ◌&&◌, List, get_or, replicate, nat_lt, slice_index, slice_index_or, slice_set}
 use Rattle.grammar.specs.Grammar.{Grammar, IsRule, left_side, right_side}
 use Rattle.grammar.specs.Items.{Items}
 

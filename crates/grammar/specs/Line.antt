@@ -1,10 +1,9 @@
 -- The machine with its limits, on a designer's line.
-use Rattle.std.specs.Prelude.{◌≡◌, ℕ, zero, suc, ◌-◌, ◌≤◌, Bool, cond, not, List, [], ◌∷◌, ◌++◌, length, drop, nat_le}
+use Rattle.std.specs.Prelude.{◌≡◌, ℕ, zero, suc, ◌-◌, cond, not, List, [], ◌∷◌, ◌++◌, length, drop, nat_le}
 use Rattle.std.proofs.Math.Option.{Option, some, none}
 use Rattle.grammar.specs.Grammar.{Grammar, left_side, right_side}
 use Rattle.grammar.specs.Derivation.{is_terminal}
 use Rattle.grammar.specs.States.{Automaton}
-use Rattle.grammar.specs.Machine.{Run}
 use Rattle.grammar.specs.declared.action.Action.{Action}
 use Rattle.grammar.specs.declared.action.Action.TheVariants.{Shift, Accept, Reduce}
 

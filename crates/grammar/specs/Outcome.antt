@@ -1,9 +1,9 @@
 -- What building a grammar comes to.
-use Rattle.std.specs.Prelude.{◌≡◌, ℕ, ◌<◌, ◌≤◌, List, length}
+use Rattle.std.specs.Prelude.{◌≡◌, ℕ, ◌<◌, ◌≤◌, length}
 use Rattle.std.proofs.Math.Option.{Option}
 use Rattle.grammar.specs.Grammar.{Grammar, IsRule, IsNonterminal, AllCodes, left_side, right_side}
 use Rattle.grammar.specs.States.{Automaton, Numbered, Crowded}
-use Rattle.grammar.specs.Cells.{ConflictFree, FirstConflict, Exact}
+use Rattle.grammar.specs.Cells.{FirstConflict, Exact}
 use Rattle.grammar.specs.Useful.{Useless}
 use Rattle.grammar.specs.declared.action.Action.{Action}
 use Rattle.grammar.specs.declared.refusal.Refusal.{Refusal}

@@ -1,6 +1,6 @@
 -- The numbered states. The end mark makes no state: no right side has it.
 use Rattle.std.specs.Prelude.{◌≡◌, ℕ, suc, ◌<◌, ◌≤◌, Bool, true, false, ◌⊎◌, ◌≢◌}
-use Rattle.std.proofs.Math.Option.{Option, some, none}
+use Rattle.std.proofs.Math.Option.{Option, some}
 use Rattle.grammar.specs.Grammar.{Grammar, IsRule, left_side}
 use Rattle.grammar.specs.Items.{Items, Same, CodeAt, Completes, origin, Move, Waits}
 

@@ -1,13 +1,13 @@
 -- What is proved of the definitions, and nothing else.
-use Rattle.std.specs.Prelude.{◌≡◌, ℕ, ◌+◌, ◌<◌, ◌≤◌, true, ◌↔◌, List, [], ◌∷◌, ◌++◌, reverse, length, drop}
+use Rattle.std.specs.Prelude.{◌≡◌, ℕ, ◌+◌, ◌<◌, ◌≤◌, ◌↔◌, List, [], ◌∷◌, ◌++◌, reverse, length, drop}
 use Rattle.std.proofs.Math.Option.{Option, some}
-use Rattle.grammar.specs.Grammar.{Grammar, IsRule, Valid, left_side, right_side}
-use Rattle.grammar.specs.Trees.{Forest, TreeOf, AllProductive}
-use Rattle.grammar.specs.Derivation.{Derives, Sentence, ShortSentence, Begins, Rightmost, derive}
+use Rattle.grammar.specs.Grammar.{Grammar, Valid, left_side, right_side}
+use Rattle.grammar.specs.Trees.{TreeOf, AllProductive}
+use Rattle.grammar.specs.Derivation.{Derives, ShortSentence, Begins, Rightmost, derive}
 use Rattle.grammar.specs.Items.{Items, Same}
 use Rattle.grammar.specs.States.{Automaton, Reached, Numbered, Crowded, Agree, Laws}
 use Rattle.grammar.specs.Cells.{Holds, ConflictFree, Exact}
-use Rattle.grammar.specs.Machine.{Run, AcceptsWords, Spells, FewReductions}
+use Rattle.grammar.specs.Machine.{Run, AcceptsWords, FewReductions}
 use Rattle.grammar.specs.Line.{Line, Open, after, take_word, judge_line}
 use Rattle.grammar.specs.Outcome.{Built, Outcome, SameBuilt}
 use Rattle.grammar.specs.declared.action.Action.{Action}

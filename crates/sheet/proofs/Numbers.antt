@@ -3,7 +3,7 @@ use Rattle.std.proofs.Common.{◌≡◌, ℕ, suc, ◌+◌, ◌<◌, ◌≤◌, 
 use Rattle.std.proofs.lemmas.List.{length-set, get_or_append_left}
 use Rattle.grammar.specs.Grammar.{Grammar}
 use Rattle.sheet.specs.Readings.{code_told, left_told, length_told}
-use Rattle.sheet.specs.Packing.{BodyAt, ends, packed, unpacked}
+use Rattle.sheet.specs.Packing.{BodyAt, ends, packed}
 use Rattle.sheet.specs.Packs.{Front, Narrow, NarrowEnds, Packs, size_at}
 use Rattle.sheet.proofs.Fronts.{front_all, front_more, front_on}
 use Rattle.sheet.proofs.Bodies.{body_at}

@@ -1,5 +1,5 @@
 -- What an answer says of the option that it tells.
-use Rattle.std.proofs.Common.{◌≡◌, ℕ, true, false, is_some, Some, None, Option as Answer, sym, refl, ◌∙◌}
+use Rattle.std.proofs.Common.{◌≡◌, ℕ, true, false, is_some, Some, None, Option as Answer}
 use mathlib.Core.Option.{Option, some, none}
 use Rattle.std.proofs.lemmas.Bool.{true≢false, false≢true}
 use Rattle.tables.specs.Answers.{as_option}

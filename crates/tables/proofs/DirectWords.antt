@@ -1,11 +1,11 @@
 -- The direct words of a state and those behind a transition.
-use Rattle.std.proofs.Common.{◌≡◌, ℕ, ◌+◌, ◌<◌, ◌≤◌, true, false, List, get_or, sym, refl, ◌∙◌, subst, arith}
+use Rattle.std.proofs.Common.{◌≡◌, ℕ, ◌<◌, ◌≤◌, true, false, List, get_or, sym, ◌∙◌, subst, arith}
 use mathlib.Core.Option.{some, none, none-ne-some}
 use Rattle.std.proofs.lemmas.Bool.{both_ways}
 use Rattle.grammar.specs.Grammar.{Grammar, IsTerminal}
 use Rattle.grammar.specs.StateLists.{state_at}
 use Rattle.grammar.specs.States.{Automaton}
-use Rattle.grammar.specs.Lookahead.{Direct, next_word, next_end, Transition}
+use Rattle.grammar.specs.Lookahead.{Direct, next_word, next_end}
 use Rattle.tables.specs.declared.rules.Rules.{Rules}
 use Rattle.tables.specs.declared.states.States.{States}
 use Rattle.tables.specs.Arrays.{grammar_of, automaton}

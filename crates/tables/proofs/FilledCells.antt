@@ -1,9 +1,8 @@
 -- Rows with all turns over are the exact cells of their states, or tell the first conflict.
-use Rattle.std.proofs.Common.{◌≡◌, ℕ, ◌+◌, ◌*◌, ◌<◌, ◌≤◌, ◌⊎◌, ◌↔◌, List, [], length, get_or, set, replicate, Some, None, Option as Answer, sym, refl, ap, ◌∙◌, subst, inl, inr, arith}
-use mathlib.Core.Option.{Option, some, none, none-ne-some, some-injective}
+use Rattle.std.proofs.Common.{◌≡◌, ℕ, ◌+◌, ◌*◌, ◌<◌, ◌↔◌, List, [], get_or, set, replicate, Some, None, Option as Answer, sym, ap, ◌∙◌, subst, inl, inr, arith}
+use mathlib.Core.Option.{Option, some, none-ne-some, some-injective}
 use Rattle.std.proofs.lemmas.List.{get_or-set_same, get_or-set_other, get_or_past, length-set, length-replicate, get_or-replicate}
 use Rattle.std.proofs.lemmas.Bool.{cases_lt, cases_eq}
-use Rattle.grammar.specs.States.{Earlier}
 use Rattle.grammar.specs.Cells.{FirstConflict, Exact}
 use Rattle.grammar.specs.declared.action.Action.{Action}
 use Rattle.tables.specs.declared.conflict.Conflict.{Conflict}

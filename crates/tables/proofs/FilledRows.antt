@@ -1,5 +1,5 @@
 -- One turn more in a row.
-use Rattle.std.proofs.Common.{◌≡◌, ℕ, zero, suc, ◌+◌, ◌*◌, ◌<◌, ◌≤◌, Bool, true, false, cond, ltb, ◌⊎◌, List, length, get_or, set, Some, None, Option as Answer, sym, refl, ap, ◌∙◌, subst, inl, inr, arith}
+use Rattle.std.proofs.Common.{◌≡◌, ℕ, ◌+◌, ◌*◌, ◌<◌, ◌≤◌, ltb, get_or, set, Some, None, Option as Answer, sym, refl, ◌∙◌, subst, inl, inr, arith}
 use Rattle.std.proofs.lemmas.List.{get_or-set_same, get_or-set_other, length-set}
 use Rattle.std.proofs.lemmas.Bool.{cases_lt, cases_eq, cases_Bool, cond-true, cond-false, ltb-true, ltb-false}
 use Rattle.grammar.specs.Cells.{rank}
@@ -11,7 +11,7 @@ use Rattle.tables.specs.declared.rules.Rules.{Rules}
 use Rattle.tables.specs.declared.states.States.{States}
 use Rattle.tables.specs.Rows.{lowest_of, entered_by, entered}
 use Rattle.tables.specs.RowMeaning.{turn, Has, FirstAction, CellUpto, Alone, LowestConflict, ConflictUpto, RowUpto}
-use Rattle.tables.proofs.HeldActions.{placed, same_rank, of_rank}
+use Rattle.tables.proofs.HeldActions.{placed, of_rank}
 
 module _ (R : Rules) (S : States) (s : ℕ) where
   word_below : (w : ℕ) (c : Action) → Has R S s w c → w < 64

@@ -1,15 +1,14 @@
 -- The row of a state, filled with its moves and its reductions.
-use Rattle.std.proofs.Common.{◌≡◌, ℕ, zero, suc, ◌+◌, ◌*◌, ◌<◌, ◌≤◌, Bool, true, false, ◌⊎◌, List, length, get_or, set, replicate, Some, None, Option as Answer, sym, refl, ap, ◌∙◌, subst, inl, inr, add-one, arith}
+use Rattle.std.proofs.Common.{◌≡◌, ℕ, zero, suc, ◌+◌, ◌*◌, ◌<◌, ◌≤◌, true, false, List, length, get_or, set, replicate, Some, None, Option as Answer, sym, ap, ◌∙◌, subst, inl, inr, add-one, arith}
 use mathlib.Core.Option.{some, none, none-ne-some}
 use Rattle.std.proofs.lemmas.List.{get_or-set_same, get_or-set_other, length-set, length-replicate, get_or-replicate}
-use Rattle.std.proofs.lemmas.Bool.{cases_eq, cases_Bool, both_ways, false≢true}
+use Rattle.std.proofs.lemmas.Bool.{cases_eq, cases_Bool, both_ways}
 use Rattle.gather.specs.Members.{has}
 use Rattle.gather.specs.declared.word_set.WordSet.{WordSet}
 use Rattle.grammar.specs.Grammar.{Grammar}
 use Rattle.grammar.specs.StateLists.{state_at}
 use Rattle.grammar.specs.States.{Automaton}
-use Rattle.grammar.specs.Lookahead.{Lookahead}
-use Rattle.grammar.specs.Cells.{rank, Holds, may_shift, may_accept, may_reduce}
+use Rattle.grammar.specs.Cells.{rank, may_shift, may_accept, may_reduce}
 use Rattle.grammar.specs.declared.action.Action.{Action}
 use Rattle.grammar.specs.declared.action.Action.TheVariants.{Shift, Accept, Reduce}
 use Rattle.tables.specs.declared.row.Row.{Row}
@@ -18,7 +17,7 @@ use Rattle.tables.specs.declared.states.States.{States}
 use Rattle.tables.specs.Arrays.{grammar_of, automaton}
 use Rattle.tables.specs.Lookaheads.{member, Lookaheads}
 use Rattle.tables.specs.Rows.{reduced}
-use Rattle.tables.specs.RowMeaning.{turn, Has, CellUpto, Alone, ConflictUpto, RowUpto}
+use Rattle.tables.specs.RowMeaning.{Has, CellUpto, Alone, ConflictUpto, RowUpto}
 use Rattle.tables.proofs.RuleArrays.{is_rule_lem}
 use Rattle.tables.proofs.DirectWords.{terminal}
 use Rattle.tables.proofs.Gotos.{has_item, item_has}

@@ -1,8 +1,7 @@
 -- Read sets gathered along includes are follow sets.
-use Rattle.std.proofs.Common.{◌≡◌, ℕ, ◌+◌, ◌-◌, ◌*◌, ◌/◌, ◌%◌, ◌<◌, ◌≤◌, List, length, get_or, sym, refl, ap, ◌∙◌, subst, arith}
+use Rattle.std.proofs.Common.{◌≡◌, ℕ, List, length, get_or, subst, arith}
 use Rattle.gather.specs.Gathered.{Gathered}
 use Rattle.gather.specs.Members.{no_members, unite}
-use Rattle.gather.specs.Reach.{Step}
 use Rattle.gather.specs.declared.word_set.WordSet.{WordSet}
 use Rattle.grammar.specs.Lookahead.{Includes, Read}
 use Rattle.tables.specs.declared.grouped.Grouped.{Grouped}

@@ -1,20 +1,18 @@
 -- What is gathered along a relation of transitions: the words of the transitions that are reached.
-use Rattle.std.proofs.Common.{◌≡◌, ℕ, ◌<◌, ◌≤◌, true, List, length, get_or, sym, refl, ap, ◌∙◌, subst, arith}
+use Rattle.std.proofs.Common.{◌≡◌, ℕ, ◌<◌, List, length, sym, refl, subst}
 use Rattle.gather.specs.Gathered.{Gathered}
-use Rattle.gather.specs.Members.{has, no_members, unite}
+use Rattle.gather.specs.Members.{no_members, unite}
 use Rattle.gather.specs.Reach.{Step, Reaches, here, step}
 use Rattle.gather.specs.declared.word_set.WordSet.{WordSet}
 use Rattle.gather.proofs.Paths.{reach_inside}
 use Rattle.gather.proofs.Tracing.{members_reached}
-use Rattle.grammar.specs.Grammar.{Grammar}
-use Rattle.grammar.specs.States.{Automaton}
 use Rattle.grammar.specs.Lookahead.{Star, stop, go, Transition}
 use Rattle.tables.specs.declared.rules.Rules.{Rules}
 use Rattle.tables.specs.declared.states.States.{States}
 use Rattle.tables.specs.Arrays.{grammar_of, automaton}
 use Rattle.tables.specs.Transitions.{transition_at}
 use Rattle.tables.specs.WordSets.{SetsOf}
-use Rattle.tables.proofs.Transitions.{Place, place}
+use Rattle.tables.proofs.Transitions.{place}
 
 -- The steps between places are those of a relation between transitions.
 pub record StepsOf (R : Rules) (S : States) (Rel : ℕ × ℕ → ℕ × ℕ → Type 0) (targets : ℕ → List ℕ) : Type 0 where

@@ -1,10 +1,9 @@
 -- Where states in arrays lead, and which items they have.
-use Rattle.std.proofs.Common.{◌≡◌, ℕ, ◌+◌, ◌*◌, ◌<◌, ◌≤◌, Bool, true, false, cond, ◌&&◌, ltb, leb, List, get_or, sym, refl, ap, ◌∙◌, subst, inl, inr, arith}
-use mathlib.Core.Option.{Option, some, none, some-injective, none-ne-some}
+use Rattle.std.proofs.Common.{◌≡◌, ℕ, ◌+◌, ◌*◌, ◌<◌, ◌≤◌, Bool, true, false, ◌&&◌, ltb, leb, get_or, sym, ap, ◌∙◌, subst, inl, inr, arith}
+use mathlib.Core.Option.{some, none, some-injective, none-ne-some}
 use Rattle.std.proofs.lemmas.Bool.{and_parts, and_from, and_left, and_right, ltb-true, leb-true, lt-ltb, le-ltb, le-leb, lt-leb, cond-true, cond-false, cases_Bool}
 use Rattle.grammar.specs.Grammar.{Grammar}
-use Rattle.grammar.specs.ItemLists.{items_of}
-use Rattle.grammar.specs.StateLists.{IsCode, state_at, goto_at, has_at, leads_at}
+use Rattle.grammar.specs.StateLists.{state_at, goto_at, has_at, leads_at}
 use Rattle.grammar.proofs.ItemLists.{held, is_held}
 use Rattle.tables.specs.declared.rules.Rules.{Rules}
 use Rattle.tables.specs.declared.states.States.{States}

@@ -1,6 +1,5 @@
 -- The actions of a cell.
-use Rattle.std.proofs.Common.{◌≡◌, ℕ, ◌+◌, ◌*◌, ◌<◌, ◌≤◌, true, sym, refl, ap, ◌∙◌, subst, arith}
-use mathlib.Core.Option.{some}
+use Rattle.std.proofs.Common.{◌≡◌, ℕ, ◌<◌, ◌≤◌, refl, ap, arith}
 use Rattle.grammar.specs.Grammar.{Grammar, right_side}
 use Rattle.grammar.specs.States.{Automaton}
 use Rattle.grammar.specs.Cells.{rank, Holds, may_shift, may_accept, may_reduce}

@@ -1,11 +1,10 @@
 -- Steps of includes, listed in the order of states, rules and dots.
-use Rattle.std.proofs.Common.{◌≡◌, ℕ, zero, suc, ◌+◌, ◌-◌, ◌*◌, ◌<◌, ◌≤◌, ◌⊎◌, List, [], ◌∷◌, ◌++◌, length, get_or, take, drop, sym, refl, ap, ◌∙◌, subst, inl, inr, arith, take-append-drop}
+use Rattle.std.proofs.Common.{◌≡◌, ℕ, suc, ◌+◌, ◌<◌, ◌≤◌, List, ◌∷◌, ◌++◌, length, get_or, take, drop, sym, refl, ap, ◌∙◌, subst, inl, inr, arith, take-append-drop}
 use mathlib.Core.Option.{some}
 use lib.ListN.{get_elem?}
 use Rattle.std.proofs.lemmas.List.{take_at, drop_at}
 use Rattle.std.proofs.lemmas.Bool.{cases_lt, cases_eq}
-use Rattle.grammar.specs.Grammar.{Grammar, left_side, right_side}
-use Rattle.grammar.specs.Items.{CodeAt}
+use Rattle.grammar.specs.Grammar.{Grammar, right_side}
 use Rattle.grammar.specs.States.{Automaton}
 use Rattle.grammar.specs.Trees.{AllNullable}
 use Rattle.grammar.specs.Lookahead.{Leads, Transition, Includes}

@@ -1,9 +1,9 @@
 -- The codes of right sides in arrays, and what is nullable behind a dot.
-use Rattle.std.proofs.Common.{◌≡◌, ℕ, zero, suc, ◌+◌, ◌-◌, ◌*◌, ◌<◌, ◌≤◌, List, [], ◌∷◌, length, get_or, drop, sym, refl, ap, ◌∙◌, subst, inl, inr, add-zero, arith}
+use Rattle.std.proofs.Common.{◌≡◌, ℕ, zero, suc, ◌+◌, ◌-◌, ◌*◌, ◌<◌, ◌≤◌, List, [], ◌∷◌, length, get_or, drop, sym, ap, ◌∙◌, subst, arith}
 use mathlib.Core.Option.{some, none-ne-some}
 use lib.ListN.{get_elem?}
 use Rattle.std.proofs.lemmas.List.{drop-drop, drop_all}
-use Rattle.grammar.specs.Grammar.{Grammar, IsRule, right_side}
+use Rattle.grammar.specs.Grammar.{Grammar, right_side}
 use Rattle.grammar.specs.Items.{CodeAt}
 use Rattle.grammar.specs.Trees.{Nullable, AllNullable}
 use Rattle.grammar.proofs.Codes.{at_get_d, get_d_at}

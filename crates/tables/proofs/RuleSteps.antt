@@ -1,18 +1,15 @@
 -- The steps of includes that a rule gives in a state, dot by dot.
-use Rattle.std.proofs.Common.{◌≡◌, ℕ, suc, ◌+◌, ◌-◌, ◌*◌, ◌<◌, ◌≤◌, get_or, take, drop, sym, refl, ap, ◌∙◌, subst, inl, inr, arith}
+use Rattle.std.proofs.Common.{◌≡◌, ℕ, suc, ◌+◌, ◌*◌, ◌<◌, ◌≤◌, get_or, take, sym, refl, ◌∙◌, subst, arith}
 use mathlib.Core.Option.{some, none, none-ne-some}
-use Rattle.grammar.specs.Grammar.{Grammar, IsRule, left_side, right_side}
-use Rattle.grammar.specs.Items.{CodeAt}
+use Rattle.grammar.specs.Grammar.{Grammar, right_side}
 use Rattle.grammar.specs.States.{Automaton}
-use Rattle.grammar.specs.Trees.{AllNullable}
 use Rattle.grammar.specs.Lookahead.{Leads, Transition}
 use Rattle.grammar.proofs.Dots.{one_target}
 use Rattle.tables.specs.declared.rules.Rules.{Rules}
 use Rattle.tables.specs.declared.states.States.{States}
 use Rattle.tables.specs.declared.steps.Steps.{Steps}
 use Rattle.tables.specs.Arrays.{grammar_of, automaton}
-use Rattle.tables.specs.Transitions.{place_of}
-use Rattle.tables.specs.IncludeSteps.{NullableFrom, IncludesBy, Pushed, order, StepsUpto}
+use Rattle.tables.specs.IncludeSteps.{NullableFrom, IncludesBy, order, StepsUpto}
 use Rattle.tables.proofs.RuleArrays.{is_rule_lem, left_is, terminals_is}
 use Rattle.tables.proofs.RuleCodes.{code_there}
 use Rattle.tables.proofs.Transitions.{transition}

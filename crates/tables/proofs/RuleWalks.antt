@@ -1,8 +1,8 @@
 -- Walks along the right side of a rule.
-use Rattle.std.proofs.Common.{◌≡◌, ℕ, ◌+◌, ◌*◌, ◌<◌, ◌≤◌, List, [], length, get_or, take, sym, refl, ap, ◌∙◌, subst, add-one, arith}
+use Rattle.std.proofs.Common.{◌≡◌, ℕ, ◌+◌, ◌*◌, ◌<◌, ◌≤◌, List, get_or, take, sym, ◌∙◌, subst, add-one, arith}
 use mathlib.Core.Option.{some, none, none-ne-some}
 use Rattle.std.proofs.lemmas.List.{take_all}
-use Rattle.grammar.specs.Grammar.{Grammar, right_side}
+use Rattle.grammar.specs.Grammar.{right_side}
 use Rattle.grammar.specs.States.{Automaton}
 use Rattle.grammar.specs.Lookahead.{Leads, here, onward}
 use Rattle.tables.specs.declared.rules.Rules.{Rules}

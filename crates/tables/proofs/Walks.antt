@@ -1,12 +1,11 @@
 -- Walks from state to state along a list of codes.
-use Rattle.std.proofs.Common.{◌≡◌, ℕ, zero, suc, ◌<◌, ◌≤◌, List, [], ◌∷◌, ◌++◌, length, take, sym, refl, ap, ◌∙◌, subst, inl, inr, arith}
-use mathlib.Core.Option.{Option, some, none, none-ne-some, some-injective}
+use Rattle.std.proofs.Common.{◌≡◌, ℕ, zero, suc, ◌<◌, List, [], ◌∷◌, take, sym, refl, subst, arith}
+use mathlib.Core.Option.{some, none-ne-some, some-injective}
 use lib.ListN.{get_elem?}
 use Rattle.grammar.specs.States.{Automaton}
 use Rattle.grammar.specs.Lookahead.{Leads, here, onward}
 use Rattle.grammar.proofs.Dots.{leads_snoc, one_target}
 use Rattle.grammar.proofs.ListParts.{take_suc_at}
-use Rattle.std.proofs.lemmas.Bool.{cases_lt}
 
 -- A code leads on from a state.
 pub record Further (A : Automaton) (s X : ℕ) : Type 0 where

@@ -1,5 +1,5 @@
 -- Cells by state and word.
-use Rattle.std.specs.Prelude.{◌≡◌, ℕ, ◌<◌, ◌≤◌, ◌↔◌, List, [], length, Some, None, Ok, Err, Option as Answer, Result, slice_index_or}
+use Rattle.std.specs.Prelude.{◌≡◌, ℕ, ◌<◌, ◌≤◌, ◌↔◌, List, [], length, None, Ok, Err, Option as Answer, Result, slice_index_or}
 use Rattle.std.proofs.Math.Option.{Option, some, none}
 use Rattle.grammar.specs.Cells.{Holds, FirstConflict, Exact}
 use Rattle.grammar.specs.declared.action.Action.{Action}

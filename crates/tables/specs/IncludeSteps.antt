@@ -1,5 +1,5 @@
 -- The steps of includes, listed by the states, rules and dots that give them.
-use Rattle.std.specs.Prelude.{◌≡◌, ℕ, suc, ◌+◌, ◌*◌, ◌<◌, ◌≤◌, List, take, drop, slice_index, slice_index_or}
+use Rattle.std.specs.Prelude.{◌≡◌, ℕ, suc, ◌+◌, ◌*◌, ◌<◌, ◌≤◌, take, drop, slice_index, slice_index_or}
 use Rattle.grammar.specs.Grammar.{Grammar, IsRule, left_side, right_side}
 use Rattle.grammar.specs.Items.{CodeAt}
 use Rattle.grammar.specs.States.{Automaton}

@@ -1,5 +1,5 @@
 -- What the cells of one state mean while they are filled: actions take turns, shift and accept first and then rules by number, and each at one word after the other.
-use Rattle.std.specs.Prelude.{◌≡◌, ℕ, ◌+◌, ◌*◌, ◌<◌, List, length, Some, None, Option as Answer, slice_index_or}
+use Rattle.std.specs.Prelude.{◌≡◌, ℕ, ◌+◌, ◌*◌, ◌<◌, length, Some, None, Option as Answer, slice_index_or}
 use Rattle.grammar.specs.Cells.{rank, Holds}
 use Rattle.grammar.specs.declared.action.Action.{Action}
 use Rattle.tables.specs.declared.conflict.Conflict.{Conflict}

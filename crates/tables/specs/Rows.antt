@@ -1,5 +1,5 @@
 -- The cells of one state as they are filled, by rising rule.
-use Rattle.std.specs.Prelude.{ℕ, zero, suc, Bool, cond, List, set, Some, None, Option as Answer, nat_lt, slice_index_or, slice_set}
+use Rattle.std.specs.Prelude.{ℕ, zero, suc, cond, Some, None, Option as Answer, nat_lt, slice_index_or, slice_set}
 use Rattle.gather.specs.Members.{has}
 use Rattle.gather.specs.declared.word_set.WordSet.{WordSet}
 use Rattle.grammar.specs.declared.action.Action.{Action}

@@ -1,5 +1,5 @@
 -- From each code to the nonterminals that use it: the left sides of the rules with the code on their right.
-use Rattle.std.specs.Prelude.{◌≡◌, ℕ, zero, suc, ◌+◌, ◌*◌, ◌<◌, Bool, false, cond, ◌||◌, List, map, ◌==◌, ◌≢◌, slice_index}
+use Rattle.std.specs.Prelude.{ℕ, zero, suc, ◌+◌, ◌*◌, ◌<◌, Bool, false, cond, ◌||◌, List, map, ◌==◌, ◌≢◌, slice_index}
 use Rattle.std.specs.List.{range_with_len}
 use Rattle.tables.specs.declared.rules.Rules.{Rules}
 

@@ -1,12 +1,10 @@
 -- The draft of all tokens of a sheet has its rules.
-use Rattle.std.proofs.Common.{◌≡◌, ℕ, ◌+◌, ◌<◌, ◌≤◌, Bool, true, false, cond, ◌⊎◌, List, [], ◌∷◌, ◌++◌, map, length, sym, refl, ap, ◌∙◌, subst, inl, inr, ⊎_elim, arith}
-use Rattle.std.specs.List.{AllByRecursion as All}
-use Rattle.std.proofs.lemmas.List.{append_assoc, append-nil, length-append, length_push}
+use Rattle.std.proofs.Common.{◌≡◌, ℕ, true, false, List, [], ◌∷◌, ◌++◌, map, sym, refl, ap, ◌∙◌}
+use Rattle.std.proofs.lemmas.List.{append_assoc, append-nil}
 use Rattle.grammar.specs.Grammar.{Rule}
-use Rattle.written.specs.Tokens.{Token, name, word, colon, bar, semicolon}
+use Rattle.written.specs.Tokens.{Token}
 use Rattle.written.specs.Statements.{Symbol, named, quoted, Statement, symbol_token, more_tokens, statement_tokens, sheet_tokens, symbol_code, name_code, rule_of, rules_of}
-use Rattle.written.specs.Drafts.{Drafted, headed, extended, finished, draft_step, draft_after, blank_draft, Overfull, Fitting}
-use Rattle.written.specs.RuleTables.{with_code}
+use Rattle.written.specs.Drafts.{Drafted, draft_step, draft_after}
 
 module _ (T N : List (List ℕ)) where
   pub draft_more : (d e : Drafted) (t : Token) (ts : List Token) → e ≡ draft_step T N d t → draft_after T N d (t ∷ ts) ≡ draft_after T N e ts

@@ -1,14 +1,14 @@
 -- What the walks over a written sheet put together.
-use Rattle.std.proofs.Common.{◌≡◌, ℕ, zero, suc, ◌+◌, ◌<◌, ◌≤◌, Bool, true, false, List, [], ◌∷◌, map, length, get_or, take, sym, refl, ap, ◌∙◌, subst, arith}
+use Rattle.std.proofs.Common.{◌≡◌, ℕ, zero, suc, ◌≤◌, true, false, List, [], ◌∷◌, map, length, take, sym, ap, ◌∙◌, subst, arith}
 use Rattle.std.specs.List.{AllByRecursion as All}
 use Rattle.std.proofs.ByRecursion.{All-get_or, All-from_get_or}
 use Rattle.std.proofs.lemmas.List.{length-take}
 use Rattle.grammar.specs.Grammar.{Rule, Grammar, IsRule, right_side, no_rule}
 use Rattle.grammar.specs.Outcome.{Within}
 use Rattle.written.specs.Tokens.{Placed, tokens}
-use Rattle.written.specs.Statements.{Statement, Written, sheet_tokens, words_in, distinct, terminals_of, nonterminals_of, rules_of, grammar_of}
+use Rattle.written.specs.Statements.{Statement, Written, words_in, distinct, terminals_of, nonterminals_of, grammar_of}
 use Rattle.written.specs.Walks.{picked, first_headless}
-use Rattle.written.specs.Drafts.{Drafted, blank_draft, draft_after, Overfull, Fitting, Read}
+use Rattle.written.specs.Drafts.{Drafted, blank_draft, draft_after, Fitting, Read}
 use Rattle.written.specs.RuleTables.{short_rule, rule_list}
 use Rattle.written.specs.WrittenSheets.{Filled, headless_place}
 use Rattle.written.specs.declared.short_rule.ShortRule.{ShortRule}

@@ -1,10 +1,10 @@
 -- Which token stands where the text has a byte that is no blank, and where it ends.
-use Rattle.std.proofs.Common.{◌≡◌, ℕ, suc, ◌+◌, ◌-◌, ◌<◌, ◌≤◌, Bool, true, false, List, [], ◌∷◌, ◌++◌, length, get_or, take, drop, sym, refl, ap, ◌∙◌, subst, arith}
+use Rattle.std.proofs.Common.{◌≡◌, ℕ, suc, ◌+◌, ◌-◌, ◌<◌, ◌≤◌, true, false, List, [], ◌∷◌, ◌++◌, length, get_or, take, drop, sym, refl, ap, ◌∙◌, subst, arith}
 use Rattle.std.specs.List.{prefix_len}
 use Rattle.std.proofs.lemmas.List.{append_assoc, drop-drop, take_at, length-append, length-drop}
-use Rattle.written.specs.Tokens.{Token, name, word, colon, bar, semicolon, spelling, blank, letter, quotable, Bytes, Proper, NoLetter, Ends, Placed, Laid}
+use Rattle.written.specs.Tokens.{Token, name, word, colon, bar, semicolon, spelling, blank, letter, quotable, Bytes, NoLetter, Placed, Laid}
 use Rattle.written.specs.Lexing.{not_quote}
-use Rattle.written.proofs.Laying.{Class, a_name, a_word, a_colon, a_bar, a_semicolon, no_letter, leading_each, Stops, each_weaker, quotable_no_quote, Behind, here, begins, behind, class_here, parts}
+use Rattle.written.proofs.Laying.{Class, a_name, a_word, a_colon, a_bar, a_semicolon, no_letter, leading_each, Stops, each_weaker, quotable_no_quote, Behind, begins, behind, class_here, parts}
 
 is_colon : (t : Token) (b : ℕ) → Class t b → b ≡ 58 → t ≡ colon
 is_colon t b (a_name y) e = absurd (no_letter b 58 e refl y)

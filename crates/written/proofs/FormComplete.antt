@@ -1,7 +1,7 @@
 -- A text that is laid of the tokens of statements is read to its end.
 use Rattle.std.proofs.Common.{◌≡◌, ℕ, ◌+◌, ◌≤◌, true, cond, ltb, List, [], ◌∷◌, ◌++◌, length, Some, None, sym, refl, ap, ◌∙◌, subst, append_assoc, arith}
 use Rattle.std.proofs.lemmas.Bool.{and_from, lt-ltb, cond-true, cond-false}
-use Rattle.written.specs.Tokens.{Token, name, word, spelling, blank, letter, quotable, Each, Bytes, Proper, NoLetter, Ends, Placed, tokens, Laid, nothing, divider, token}
+use Rattle.written.specs.Tokens.{Token, spelling, blank, letter, quotable, Each, Bytes, Proper, NoLetter, Ends, Placed, tokens, Laid, nothing, divider, token}
 use Rattle.written.specs.Stages.{next, run}
 use Rattle.written.specs.declared.form.Stage.{Stage}
 use Rattle.written.specs.declared.form.Stage.TheVariants.{Between, Head, Headed, Body, Name, Word}

@@ -1,9 +1,9 @@
 -- The first token of a text, by its first byte that is no blank.
-use Rattle.std.proofs.Common.{◌≡◌, ℕ, zero, suc, ◌+◌, ◌-◌, ◌<◌, ◌≤◌, Bool, true, false, cond, not, ◌&&◌, ◌||◌, eqb, leb, ◌⊎◌, List, [], ◌∷◌, ◌++◌, length, get_or, take, drop, sym, refl, ap, ◌∙◌, subst, inl, inr, ⊎_elim, arith}
+use Rattle.std.proofs.Common.{◌≡◌, ℕ, suc, ◌+◌, ◌<◌, ◌≤◌, Bool, true, false, ◌⊎◌, List, [], ◌∷◌, ◌++◌, length, get_or, drop, sym, refl, ap, ◌∙◌, subst, inl, inr, ⊎_elim, arith}
 use Rattle.std.specs.List.{prefix_len}
-use Rattle.std.proofs.lemmas.List.{append_assoc, drop-drop, drop_at, take_at, length-append, length-drop, get_or-drop, drop_all, drop_more}
-use Rattle.std.proofs.lemmas.Bool.{both_ways, eqb-true, ne_eqb, and_parts, not-true, or_cases, leb-true, cond-true, cond-false, cases_Bool}
-use Rattle.written.specs.Tokens.{Token, name, word, colon, bar, semicolon, spelling, blank, letter, quotable, Each, Bytes, Proper, NoLetter, Ends, Placed, Laid, nothing, divider, token}
+use Rattle.std.proofs.lemmas.List.{drop-drop, drop_at, length-append, length-drop, get_or-drop, drop_all}
+use Rattle.std.proofs.lemmas.Bool.{both_ways, eqb-true, and_parts, or_cases, cond-true, cond-false, cases_Bool}
+use Rattle.written.specs.Tokens.{Token, name, word, colon, bar, semicolon, spelling, blank, letter, quotable, Each, Proper, Ends, Placed, Laid, nothing, divider, token}
 use Rattle.written.specs.Lexing.{not_quote}
 
 -- The bytes that pass, before one that does not.

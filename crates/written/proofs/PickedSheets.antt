@@ -1,5 +1,5 @@
 -- The heads and the words of a sheet, as walks find them.
-use Rattle.std.proofs.Common.{◌≡◌, ℕ, Bool, true, false, List, [], ◌∷◌, ◌++◌, map, sym, refl, ap, ◌∙◌}
+use Rattle.std.proofs.Common.{◌≡◌, Bool, true, false, List, [], ◌∷◌, ◌++◌, map, refl, ap, ◌∙◌}
 use Rattle.std.proofs.lemmas.List.{append_assoc}
 use Rattle.written.specs.Tokens.{Token, name, word, colon, bar, semicolon}
 use Rattle.written.specs.Statements.{Symbol, named, quoted, Statement, symbol_token, more_tokens, sheet_tokens, words_in}

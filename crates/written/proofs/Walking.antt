@@ -1,5 +1,5 @@
 -- A walk over the tokens of a text, step by step.
-use Rattle.std.proofs.Common.{◌≡◌, ℕ, List, [], ◌∷◌, drop, Some, None, sym, refl, subst}
+use Rattle.std.proofs.Common.{ℕ, List, [], ◌∷◌, drop, Some, None, subst}
 use Rattle.written.specs.declared.lexer.Found.{Found}
 use Rattle.written.specs.Tokens.{Placed, Laid}
 use Rattle.written.specs.Lexing.{placed_of, Starts}

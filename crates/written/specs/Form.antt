@@ -1,7 +1,6 @@
 -- Which byte can stand where in a written sheet.
-use Rattle.std.specs.Prelude.{◌≡◌, ℕ, zero, suc, ◌+◌, ◌<◌, ◌≤◌, Bool, cond, eqb, ltb, List, [], ◌∷◌, ◌++◌, length, take}
-use Rattle.std.proofs.Math.Option.{Option, some, none}
-use Rattle.written.specs.Tokens.{blank, letter, quotable, Placed}
+use Rattle.std.specs.Prelude.{ℕ, suc, ◌<◌, ◌≤◌, List, ◌++◌, length, take}
+use Rattle.written.specs.Tokens.{Placed}
 use Rattle.written.specs.Statements.{Statement, Written}
 
 -- The text is a list of statements.

@@ -1,5 +1,5 @@
 -- What a table of rules holds.
-use Rattle.std.specs.Prelude.{◌≡◌, ℕ, suc, ◌≤◌, Bool, true, false, List, [], ◌∷◌, ◌++◌, map, length, take, Some, None, Option}
+use Rattle.std.specs.Prelude.{◌≡◌, ℕ, ◌≤◌, Bool, true, false, List, [], ◌∷◌, ◌++◌, map, length, take, Some, None, Option}
 use Rattle.grammar.specs.Grammar.{Rule}
 use Rattle.written.specs.declared.short_rule.ShortRule.{ShortRule}
 use Rattle.written.specs.declared.rule_table.RuleTable.{RuleTable}

@@ -1,5 +1,5 @@
 -- The statements of a written sheet, and the grammar that they mean.
-use Rattle.std.specs.Prelude.{◌≡◌, ℕ, zero, suc, ◌+◌, Bool, true, false, cond, ◌||◌, List, [], ◌∷◌, ◌++◌, map, length}
+use Rattle.std.specs.Prelude.{◌≡◌, ℕ, suc, ◌+◌, Bool, false, cond, ◌||◌, List, [], ◌∷◌, ◌++◌, map, length}
 use Rattle.std.specs.Str.{bytes_eq}
 use Rattle.grammar.specs.Grammar.{Rule, Grammar}
 use Rattle.written.specs.Tokens.{Token, name, word, colon, bar, semicolon, Placed, tokens, Laid}

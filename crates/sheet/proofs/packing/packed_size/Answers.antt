@@ -1,5 +1,4 @@
-use Rattle.std.proofs.Common.{ap, ◌∙◌, arith}
-use Rattle.sheet.specs.Packing.{ends, packed}
+use Rattle.std.proofs.Common.{arith}
 use Rattle.sheet.proofs.Numbers.{narrow_all, narrow_more, not_narrow}
 use Rattle.sheet.proofs.packing.packed_size.Goals as goal
 

@@ -1,4 +1,4 @@
-use Rattle.std.proofs.Common.{◌≡◌, ◌+◌, ◌*◌, ◌≤◌, sym, subst, arith}
+use Rattle.std.proofs.Common.{◌+◌, ◌*◌, ◌≤◌, sym, subst, arith}
 use Rattle.tables.specs.RowMeaning.{RowUpto}
 use Rattle.tables.proofs.FilledStates.{row_rule, row_no_rule, last_word}
 use Rattle.tables.proofs.cells.fill_row.Goals as goal

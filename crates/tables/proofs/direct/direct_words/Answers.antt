@@ -1,4 +1,4 @@
-use Rattle.std.proofs.Common.{◌≡◌, ◌+◌, ◌||◌, sym, ap, ◌∙◌, subst, arith}
+use Rattle.std.proofs.Common.{◌+◌, ◌||◌, sym, ap, ◌∙◌, subst, arith}
 use Rattle.gather.specs.Members.{has}
 use Rattle.tables.specs.Arrays.{automaton}
 use Rattle.tables.specs.Transitions.{DirectIn}

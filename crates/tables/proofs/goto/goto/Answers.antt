@@ -1,4 +1,4 @@
-use Rattle.std.proofs.Common.{inl, inr, arith}
+use Rattle.std.proofs.Common.{arith}
 use Rattle.tables.proofs.Gotos.{goto_some, goto_past, goto_low, goto_high, goto_nowhere}
 use Rattle.tables.proofs.goto.goto.Goals as goal
 use Rattle.tables.proofs.goto.goto.Goals.{then-state-states-via-then-state-states, then-state-states-via-else-state-states+then-code-eq0, then-state-states-via-else-state-states+else-code-eq0+then-code-codes}

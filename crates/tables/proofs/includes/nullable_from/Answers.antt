@@ -1,4 +1,4 @@
-use Rattle.std.proofs.Common.{◌≡◌, ℕ, drop, subst, arith}
+use Rattle.std.proofs.Common.{◌≡◌, drop, subst, arith}
 use Rattle.grammar.specs.Grammar.{right_side}
 use Rattle.grammar.specs.Trees.{AllNullable}
 use Rattle.tables.specs.Arrays.{grammar_of}

@@ -1,4 +1,4 @@
-use Rattle.std.proofs.Common.{◌≡◌, ℕ, ◌+◌, ◌*◌, get_or, sym, subst, arith}
+use Rattle.std.proofs.Common.{ℕ, ◌+◌, ◌*◌, get_or, sym, subst, arith}
 use Rattle.grammar.specs.Lookahead.{here}
 use Rattle.tables.specs.IncludeSteps.{StepsUpto, order}
 use Rattle.tables.proofs.Transitions.{within, inside, transition}

@@ -1,4 +1,4 @@
-use Rattle.std.proofs.Common.{◌≡◌, ◌+◌, get_or, sym, subst, arith}
+use Rattle.std.proofs.Common.{◌+◌, get_or, sym, subst, arith}
 use Rattle.tables.specs.Arrays.{automaton}
 use Rattle.tables.specs.IncludeSteps.{StepsUpto, order}
 use Rattle.tables.proofs.Answered.{told_some, told_none}

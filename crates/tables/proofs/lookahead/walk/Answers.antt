@@ -1,4 +1,4 @@
-use Rattle.std.proofs.Common.{◌≡◌, get_or, take, sym, ◌∙◌, subst, arith}
+use Rattle.std.proofs.Common.{◌≡◌, get_or, take, sym, subst, arith}
 use Rattle.grammar.specs.Grammar.{right_side}
 use Rattle.grammar.specs.Lookahead.{Leads, here}
 use Rattle.tables.specs.Arrays.{grammar_of, automaton}

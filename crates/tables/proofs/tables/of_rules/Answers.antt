@@ -1,4 +1,3 @@
-use Rattle.std.proofs.Common.{refl}
 use Rattle.tables.proofs.Outcomes.{useless_told, crowded_told}
 use Rattle.tables.proofs.tables.of_rules.Goals as goal
 

@@ -1,4 +1,4 @@
-use Rattle.std.proofs.Common.{◌≡◌, ◌<◌, true, length, sym, refl, ap, ◌∙◌, subst, arith}
+use Rattle.std.proofs.Common.{◌<◌, true, length, sym, ap, ◌∙◌, subst, arith}
 use Rattle.written.specs.Tokens.{tokens}
 use Rattle.written.specs.Lexing.{placed_of}
 use Rattle.written.specs.Spelled.{spelled}

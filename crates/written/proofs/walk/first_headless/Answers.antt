@@ -1,4 +1,4 @@
-use Rattle.std.proofs.Common.{◌≡◌, true, Some, sym, refl, ap, ◌∙◌, arith}
+use Rattle.std.proofs.Common.{true, Some, sym, refl, ap, ◌∙◌, arith}
 use Rattle.written.specs.Tokens.{tokens}
 use Rattle.written.specs.Lexing.{placed_of}
 use Rattle.written.specs.Walks.{picked}

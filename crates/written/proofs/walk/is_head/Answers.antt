@@ -1,11 +1,9 @@
-use Rattle.std.proofs.Common.{◌≡◌, true, false, sym, refl, ap, ◌∙◌, arith}
+use Rattle.std.proofs.Common.{sym, refl, ◌∙◌, arith}
 use Rattle.std.proofs.lemmas.Bool.{or_left}
 use Rattle.written.specs.Tokens.{tokens}
 use Rattle.written.specs.Lexing.{placed_of}
-use Rattle.written.specs.Statements.{member}
-use Rattle.written.specs.Walks.{pick, picked, between_after}
 use Rattle.written.proofs.Picking.{member_picked, member_later, member_none}
-use Rattle.written.proofs.Walking.{left_start, left_more, left_end, left_here}
+use Rattle.written.proofs.Walking.{left_more, left_end, left_here}
 use Rattle.written.proofs.walk.is_head.Goals as goal
 
 pub loop-found-init : goal.loop-found-init

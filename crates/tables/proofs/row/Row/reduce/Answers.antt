@@ -1,5 +1,5 @@
-use Rattle.std.proofs.Common.{◌≡◌, sym, refl, ap, ◌∙◌}
-use Rattle.tables.specs.Rows.{reduced, entered}
+use Rattle.std.proofs.Common.{sym, ap, ◌∙◌}
+use Rattle.tables.specs.Rows.{entered}
 use Rattle.tables.proofs.ReducedRows.{reduced_none, reduced_has, reduced_lacks}
 use Rattle.tables.proofs.row.Row.reduce.Goals as goal
 use Rattle.tables.proofs.row.Row.reduce.Goals.{then-has, else-has}

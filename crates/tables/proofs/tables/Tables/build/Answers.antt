@@ -1,5 +1,4 @@
-use Rattle.std.proofs.Common.{◌≡◌, sym, refl, ap, subst}
-use mathlib.Core.Logic.{∥∥₁_map}
+use Rattle.std.proofs.Common.{refl}
 use Rattle.tables.proofs.Outcomes.{built_tables}
 use Rattle.tables.proofs.tables.Tables.build.Goals as goal
 

@@ -1,4 +1,4 @@
-use Rattle.std.proofs.Common.{sym, refl, ap, ◌∙◌}
+use Rattle.std.proofs.Common.{sym, ap}
 use Rattle.tables.specs.Arrays.{grammar_of}
 use Rattle.tables.specs.Building.{held_by}
 use Rattle.tables.specs.HeldReadings.{terminal_count}

@@ -1,8 +1,8 @@
-use Rattle.std.proofs.Common.{◌≡◌, sym, refl, ap, ◌∙◌}
+use Rattle.std.proofs.Common.{sym, refl, ◌∙◌}
 use Rattle.written.specs.Tokens.{tokens}
 use Rattle.written.specs.Lexing.{placed_of}
 use Rattle.written.specs.Spelled.{spelled}
-use Rattle.written.specs.Drafts.{draft_after, draft_step, drafted}
+use Rattle.written.specs.Drafts.{draft_step, drafted}
 use Rattle.written.proofs.Drafting.{draft_more, draft_none}
 use Rattle.written.proofs.Walking.{left_more, left_end, left_here}
 use Rattle.written.proofs.draft.Draft.read.Goals as goal

@@ -2,7 +2,7 @@ use Rattle.std.proofs.Common.{◌≡◌, ℕ, true, false, length, sym, refl, ap
 use Rattle.written.specs.Spelled.{spelled}
 use Rattle.written.specs.RuleTables.{rule_list}
 use Rattle.written.specs.Drafts.{drafted}
-use Rattle.written.specs.Statements.{terminals_of, nonterminals_of, grammar_of}
+use Rattle.written.specs.Statements.{terminals_of, nonterminals_of}
 use Rattle.written.proofs.FilledSheets.{words_found, heads_found, rules_read, rules_off, sheet_filled, few_rules, table_short}
 use Rattle.written.proofs.written.WrittenSheet.fill.Goals as goal
 

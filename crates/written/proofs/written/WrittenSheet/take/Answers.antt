@@ -1,4 +1,4 @@
-use Rattle.std.proofs.Common.{◌≡◌, sym, refl, ◌∙◌}
+use Rattle.std.proofs.Common.{sym, refl, ◌∙◌}
 use Rattle.written.specs.WrittenSheets.{misplaced, headless, off_limits}
 use Rattle.written.proofs.FilledSheets.{headless_found}
 use Rattle.written.proofs.written.WrittenSheet.take.Goals as goal
