@@ -1,5 +1,5 @@
 -- Memory that grows keeps its length; it may grow by nothing; and to grow twice is to grow once by both lists.
-use Rattle.std.specs.Prelude.{◌≡◌, ℕ, ◌+◌, ◌-◌, ◌≤◌, List, [], ◌∷◌, ◌++◌, length, take, drop, refl}
+use Rattle.std.specs.Prelude.{◌≡◌, ℕ, ◌+◌, ◌≤◌, List, [], ◌++◌, length, take, drop}
 use Rattle.std.proofs.Common.{◌∙◌, ap, sym, subst, add-zero, add_assoc, arith, length-append, length-take, length-drop}
 use Rattle.std.proofs.lemmas.List.{length-take-le, take_at, drop_at, drop-drop, append_assoc, take-append-drop}
 use Rattle.book.specs.Overwriting.{overwritten, Grown}

@@ -1,9 +1,8 @@
 -- A page of numbers is a book.
-use Rattle.std.specs.Prelude.{◌≡◌, ℕ, ◌+◌, ◌-◌, ◌≤◌, min, List, ◌++◌, length, take, refl}
-use Rattle.std.proofs.Common.{◌∙◌, ap, sym, arith, length-take}
+use Rattle.std.specs.Prelude.{◌≡◌, ℕ, ◌+◌, ◌≤◌, min, List, ◌++◌, length, take, refl}
+use Rattle.std.proofs.Common.{◌∙◌, ap, arith, length-take}
 use Rattle.book.specs.declared.number_page.NumberPage.{NumberPage}
 use Rattle.book.specs.Books.{Laws}
-use Rattle.book.specs.Overwriting.{overwritten, Grown}
 use Rattle.book.specs.Growth.{grown_length, grown_stays, grown_joins, take_overwritten}
 use Rattle.book.specs.NumberPages.{capacity_of, held_by, number_list, number_free, number_grows}
 

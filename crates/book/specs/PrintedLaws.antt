@@ -1,10 +1,9 @@
 -- A printed page is a book, and its bytes are those of the numbers put.
-use Rattle.std.specs.Prelude.{◌≡◌, ℕ, ◌+◌, ◌-◌, ◌*◌, ◌/◌, ◌≤◌, min, List, [], ◌++◌, length, take, refl}
+use Rattle.std.specs.Prelude.{◌≡◌, ℕ, ◌+◌, ◌*◌, ◌/◌, ◌≤◌, min, List, [], ◌++◌, length, take, refl}
 use Rattle.std.proofs.Common.{◌∙◌, ap, sym, arith}
 use Rattle.book.specs.declared.printed_page.PrintedPage.{PrintedPage}
 use Rattle.book.specs.Books.{Laws}
 use Rattle.book.specs.Decimals.{printed, read_lines}
-use Rattle.book.specs.Overwriting.{overwritten, Grown}
 use Rattle.book.specs.Growth.{grown_length, grown_stays, grown_joins, take_overwritten}
 use Rattle.book.specs.ReadBack.{length_read, printed_joins, printed_spans, read_overwritten}
 use Rattle.book.specs.PrintedPages.{capacity_of, held_by, printed_list, printed_free, printed_grows, bytes_of}

@@ -1,6 +1,6 @@
 -- Numbers printed are read back as they were.
-use Rattle.std.specs.Prelude.{◌≡◌, ℕ, zero, suc, ◌+◌, ◌-◌, ◌*◌, ◌/◌, ◌%◌, ◌<◌, ◌≤◌, List, [], ◌∷◌, ◌++◌, length, take, drop, slice_index, slice_index_or, refl}
-use Rattle.std.proofs.Common.{◌∙◌, ap, sym, zero-add, suc-add, arith, length-drop, length-append}
+use Rattle.std.specs.Prelude.{◌≡◌, ℕ, zero, suc, ◌+◌, ◌*◌, ◌/◌, ◌<◌, ◌≤◌, List, [], ◌∷◌, ◌++◌, length, take, drop, slice_index, slice_index_or, refl}
+use Rattle.std.proofs.Common.{◌∙◌, ap, sym, zero-add, suc-add, arith, length-drop}
 use Rattle.std.proofs.lemmas.List.{append_assoc, get_or_append_left, drop-append-le, drop_at, drop-drop, take-append-drop, length-take-le}
 use Rattle.book.specs.Decimals.{six_bytes, printed, line_value, read_lines}
 use Rattle.book.specs.Overwriting.{overwritten}

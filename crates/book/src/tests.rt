@@ -25,7 +25,7 @@ fn number_page_leaves_the_rest(rt: HostRuntime) {
     let mut memory = [9; 4];
     let mut page = NumberPage::open(&mut memory);
     let _ = page.put(5);
-    assert!(rt; page.numbers() == [5]);
+    assert!(rt; page.numbers() == [5].as_slice());
     assert_eq!(rt; memory, [5, 9, 9, 9]);
 }
 
@@ -45,7 +45,7 @@ fn printed_page_leaves_the_rest(rt: HostRuntime) {
     let mut memory = [b'-'; 17];
     let mut page = PrintedPage::open(&mut memory);
     let _ = page.put(12345);
-    assert!(rt; page.bytes() == b"12345\n");
+    assert!(rt; page.bytes() == b"12345\n".as_slice());
     assert_eq!(rt; memory, *b"12345\n-----------");
 }
 

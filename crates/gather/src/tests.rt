@@ -7,7 +7,6 @@ use super::relation::Relation;
 use super::walk::gather;
 use super::word_set::WordSet;
 use std::process::Abort;
-use std::test::Fail;
 
 // Each place has the two next places of its pair.
 #[derive(Drop)]
@@ -30,7 +29,7 @@ impl<'a> Relation for Pairs<'a> {
 }
 
 // Each place begins with its own number alone, and ends with the numbers of these bits.
-fn sets(rt: &impl Abort, targets: &[(usize, usize)], reached: &[u64]) {
+fn sets(rt: &impl Abort, name: &str, targets: &[(usize, usize)], reached: &[u64]) {
     assert!(rt; reached.len() <= 4);
     let mut values = [
         WordSet::one(0),
@@ -38,62 +37,67 @@ fn sets(rt: &impl Abort, targets: &[(usize, usize)], reached: &[u64]) {
         WordSet::one(2),
         WordSet::one(3),
     ];
-    assert!(rt; gather(&mut values[..reached.len()], &Pairs(targets)));
+    assert!(rt;
+        gather(&mut values[..reached.len()], &Pairs(targets)),
+        "{name}"
+    );
     for i in 0..reached.len() {
         for j in 0..64usize {
-            assert_eq!(rt; values[i].has(j), (reached[i] >> j) & 1 == 1);
+            assert_eq!(rt; values[i].has(j), (reached[i] >> j) & 1 == 1, "{name}");
         }
     }
 }
 
 // The place `from` alone is marked first, and those that reach it then.
-fn marks(rt: &impl Abort, targets: &[(usize, usize)], reached: &[u64], from: usize) {
+fn marks(rt: &impl Abort, name: &str, targets: &[(usize, usize)], reached: &[u64], from: usize) {
     assert!(rt; reached.len() <= 4 && from < 4);
     let mut values = [Mark::NONE; 4];
     values[from] = Mark::of(true);
-    assert!(rt; gather(&mut values[..reached.len()], &Pairs(targets)));
+    assert!(rt;
+        gather(&mut values[..reached.len()], &Pairs(targets)),
+        "{name}"
+    );
     for i in 0..reached.len() {
-        assert_eq!(rt; values[i].is_yes(), (reached[i] >> from) & 1 == 1);
+        assert_eq!(rt; values[i].is_yes(), (reached[i] >> from) & 1 == 1, "{name}");
     }
 }
 
-fn both(rt: &impl Abort, targets: &[(usize, usize)], reached: &[u64]) -> Result<(), Fail> {
-    sets(rt, targets, reached);
+fn both(rt: &impl Abort, name: &str, targets: &[(usize, usize)], reached: &[u64]) {
+    sets(rt, name, targets, reached);
     for from in 0..reached.len() {
-        marks(rt, targets, reached, from);
+        marks(rt, name, targets, reached, from);
     }
-    Ok(())
 }
 
 #[test]
-fn few_places(rt: HostRuntime) -> Result<(), Fail> {
-    both(&rt, &[], &[]).note("no place")?;
-    both(&rt, &[], &[0b1]).note("no next place")?;
-    both(&rt, &[(0, 1)], &[0b1]).note("itself, and outside")?;
+fn few_places(rt: HostRuntime) {
+    both(&rt, "no place", &[], &[]);
+    both(&rt, "no next place", &[], &[0b1]);
+    both(&rt, "itself, and outside", &[(0, 1)], &[0b1]);
     both(
         &rt,
+        "a chain",
         &[(1, 9), (2, 9), (3, 9), (9, 9)],
         &[0b1111, 0b1110, 0b1100, 0b1000],
-    )
-    .note("a chain")?;
+    );
     both(
         &rt,
+        "a cycle, each step twice",
         &[(3, 3), (0, 0), (1, 1), (2, 2)],
         &[0b1111, 0b1111, 0b1111, 0b1111],
-    )
-    .note("a cycle, each step twice")?;
+    );
     both(
         &rt,
+        "a cycle that leads to another",
         &[(1, 9), (0, 3), (3, 2), (2, 9)],
         &[0b1111, 0b1111, 0b1100, 0b1100],
-    )
-    .note("a cycle that leads to another")?;
+    );
     both(
         &rt,
+        "two cycles with a common place",
         &[(1, 9), (2, 0), (1, 3), (9, 3)],
         &[0b1111, 0b1111, 0b1111, 0b1000],
-    )
-    .note("two cycles with a common place")
+    );
 }
 
 // Each of 2,304 places leads to the next, and the last to this one.

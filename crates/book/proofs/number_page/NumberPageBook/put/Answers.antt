@@ -1,9 +1,9 @@
-use Rattle.std.proofs.Common.{◌≡◌, ℕ, ◌+◌, ◌<◌, ◌≤◌, min, Bool, true, false, [], ◌∷◌, ◌++◌, length, take, drop, set, sym, refl, ap, ◌∙◌, add-one, arith, length-set}
+use Rattle.std.proofs.Common.{◌≡◌, ℕ, ◌<◌, Bool, true, false, [], ◌∷◌, ◌++◌, length, take, drop, sym, ap, ◌∙◌, add-one, arith, length-set}
 use Rattle.std.proofs.lemmas.List.{set_split}
 use Rattle.book.specs.declared.number_page.NumberPage.{NumberPage}
 use Rattle.book.specs.Books.{Entered}
 use Rattle.book.specs.NumberLaws.{number_laws}
-use Rattle.book.specs.NumberPages.{NumberWritten, capacity_of, held_by, number_free, number_grows, number_list}
+use Rattle.book.specs.NumberPages.{NumberWritten, held_by, number_free, number_grows, number_list}
 use Rattle.book.specs.Overwriting.{overwritten}
 use Rattle.book.proofs.number_page.NumberPageBook.put.Goals as goal
 

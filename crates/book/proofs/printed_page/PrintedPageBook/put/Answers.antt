@@ -1,4 +1,4 @@
-use Rattle.std.proofs.Common.{◌≡◌, ℕ, ◌+◌, ◌*◌, ◌/◌, ◌<◌, ◌≤◌, min, Bool, true, false, [], ◌∷◌, ◌++◌, length, take, sym, refl, ap, ◌∙◌, arith}
+use Rattle.std.proofs.Common.{◌≡◌, ℕ, ◌+◌, ◌*◌, ◌≤◌, Bool, true, false, [], ◌∷◌, ◌++◌, length, take, ap, ◌∙◌, arith}
 use Rattle.std.proofs.lemmas.List.{drop-drop}
 use Rattle.book.specs.declared.printed_page.PrintedPage.{PrintedPage}
 use Rattle.book.specs.Books.{Entered}
@@ -6,7 +6,7 @@ use Rattle.book.specs.Decimals.{six_bytes}
 use Rattle.book.specs.Growth.{length_overwritten}
 use Rattle.book.specs.Overwriting.{overwritten}
 use Rattle.book.specs.PrintedLaws.{printed_laws}
-use Rattle.book.specs.PrintedPages.{PrintedWritten, capacity_of, held_by, printed_free, printed_grows, printed_list}
+use Rattle.book.specs.PrintedPages.{PrintedWritten, held_by, printed_free, printed_grows, printed_list}
 use Rattle.book.proofs.printed_page.PrintedPageBook.put.Goals as goal
 
 -- A number printed behind the others is a number entered.
