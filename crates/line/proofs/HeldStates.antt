@@ -1,6 +1,6 @@
 -- The states that tables lead to, and the rules that they reduce by.
 use Rattle.std.proofs.Common.{◌≡◌, ℕ, ◌<◌, true, Some, None, Option as Answer, sym, refl, arith}
-use mathlib.Core.Option.{Option, some, none, none-ne-some}
+use mathlib.Core.Option.{some, none-ne-some}
 use Rattle.grammar.specs.Derivation.{is_rule}
 use Rattle.grammar.specs.declared.action.Action.TheVariants.{Reduce}
 use Rattle.tables.specs.declared.full.Full.{Full}

@@ -1,4 +1,4 @@
-use Rattle.std.proofs.Common.{arith, rules}
+use Rattle.std.proofs.Common.{arith}
 use Rattle.line.proofs.HeldStates.{goto_below}
 use Rattle.line.proofs.line.Line.reduce.Goals as goal
 

@@ -1,4 +1,4 @@
-use Rattle.std.proofs.Common.{◌≡◌, ℕ, ◌-◌, ◌<◌, ◌≤◌, Bool, List, length, refl, arith}
+use Rattle.std.proofs.Common.{◌-◌, ◌<◌, ◌≤◌, length, refl, arith}
 use Rattle.std.proofs.lemmas.List.{take_more_set}
 use Rattle.line.proofs.StackArrays.{stack_replace, same_line}
 use Rattle.line.proofs.line.Line.replace.Goals as goal

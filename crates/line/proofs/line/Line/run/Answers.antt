@@ -1,9 +1,9 @@
-use Rattle.std.proofs.Common.{◌≡◌, ℕ, ◌+◌, ◌<◌, ◌≤◌, [], ◌∷◌, length, take, sym, refl, ap, ◌∙◌, arith, rules}
-use mathlib.Core.Option.{some, none}
+use Rattle.std.proofs.Common.{◌≡◌, ◌+◌, ◌≤◌, length, refl, arith}
+use mathlib.Core.Option.{some}
 use Rattle.std.proofs.lemmas.Result.{err_from_is_err_and}
 use Rattle.grammar.specs.declared.action.Action.TheVariants.{Shift, Accept, Reduce}
 use Rattle.tables.specs.HeldReadings.{cell_of}
-use Rattle.std.proofs.lemmas.List.{length-take-le, length_push}
+use Rattle.std.proofs.lemmas.List.{length-take-le}
 use Rattle.tables.specs.Building.{held}
 use Rattle.line.specs.PlanLines.{plan_line_of}
 use Rattle.line.proofs.HeldStates.{rule_in}
@@ -20,7 +20,7 @@ loop-to-preserved c =
     let k = (plan_line_of c.loop-to.self).line in
     let m = (plan_line_of c.reduce.new.self).line in
     let cell : some (Reduce c.in-Some-Reduce.rule) ≡ cell_of (held t) c.top.result c.args.word = cc c.in-Some-Reduce.ensures in
-    let done = c.in_ok-reduce.ensures in (
+    let done = c.in_ok-reduce-in-Some-Reduce.ensures in (
       midway_reduced c.args.word c.top.result c.in-Some-Reduce.rule _ (held t) l k m (rule_in t c.top.result c.args.word c.in-Some-Reduce.rule cell) c.top.ensures cell c.loop-to.invariant.0 done.reduced,
       kept_on c.loop-to.invariant.1 done.kept,
     )
@@ -30,7 +30,7 @@ loop-to-smaller c =
     let t = c.args.tables.now in
     let k = c.loop-to.self in
     let m = c.reduce.new.self in
-    let more : length (plan_line_of m).line.rules ≡ length (plan_line_of k).line.rules + 1 = reduction_longer (held t) (plan_line_of k).line c.in-Some-Reduce.rule (plan_line_of m).line c.in_ok-reduce.ensures.reduced in
+    let more : length (plan_line_of m).line.rules ≡ length (plan_line_of k).line.rules + 1 = reduction_longer (held t) (plan_line_of k).line c.in-Some-Reduce.rule (plan_line_of m).line c.in_ok-reduce-in-Some-Reduce.ensures.reduced in
     let fits : m.steps ≤ length m.rules = omega arith in
     omega (arith, more, length-take-le m.steps m.rules fits)
 
@@ -50,15 +50,15 @@ returns-in-Some-Accept c =
       kept = c.loop-to.invariant.1;
     }
 
-pub returns-in_err-reduce : goal.returns-in_err-reduce
-returns-in_err-reduce c =
+pub returns-in_err-reduce-in-Some-Reduce : goal.returns-in_err-reduce-in-Some-Reduce
+returns-in_err-reduce-in-Some-Reduce c =
     let t = c.args.tables.now in
     let r = c.in-Some-Reduce.rule in
     let cell : some (Reduce r) ≡ cell_of (held t) c.top.result c.args.word = cc c.in-Some-Reduce.ensures in
-    let p = err_from_is_err_and c.from-residual.result c.from-residual.ensures.1 in
-    let out = c.in_err-reduce.ensures in
+    let p = err_from_is_err_and c.from_residual.result c.from_residual.ensures.1 in
+    let out = c.in_err-reduce-in-Some-Reduce.ensures in
     rw (p.1, p.2) record {
-      ran = midway_refused c.args.word c.top.result r _ (held t) (plan_line_of c.args.self.now).line (plan_line_of c.loop-to.self).line (plan_line_of c.reduce.new.self).line c.in_err-reduce.field-0.0 (rule_in t c.top.result c.args.word r cell) c.top.ensures cell c.loop-to.invariant.0 out.reduced;
+      ran = midway_refused c.args.word c.top.result r _ (held t) (plan_line_of c.args.self.now).line (plan_line_of c.loop-to.self).line (plan_line_of c.reduce.new.self).line c.in_err-reduce-in-Some-Reduce.field-0.0 (rule_in t c.top.result c.args.word r cell) c.top.ensures cell c.loop-to.invariant.0 out.reduced;
       kept = kept_on c.loop-to.invariant.1 out.kept;
     }
 

@@ -1,4 +1,4 @@
-use Rattle.std.proofs.Common.{◌≡◌, ap, arith, rules}
+use Rattle.std.proofs.Common.{ap, arith}
 use Rattle.line.specs.declared.line.Line.{Line}
 use Rattle.line.proofs.line.Line.take.Goals as goal
 

@@ -7,7 +7,7 @@ use Rattle.plan.proofs.plan.Plan.book_line.Goals as goal
 
 pub returns-in_err-entry : goal.returns-in_err-entry
 returns-in_err-entry g c =
-    let p = err_from_is_err_and c.from-residual.result c.from-residual.ensures.1 in
+    let p = err_from_is_err_and c.from_residual.result c.from_residual.ensures.1 in
     rw (p.1, p.2) (record { booked = (λ s e. c.in_err-entry.ensures c.args.self.now.booked (g.B.Book.free c.args.self.now.book) s e, refl, refl); kept = refl })
 
 pub returns-then-not-enter : goal.returns-then-not-enter
