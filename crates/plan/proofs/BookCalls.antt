@@ -1,5 +1,5 @@
 -- Booking a designer's line, by what its entry is.
-use Rattle.std.proofs.Common.{◌≡◌, ℕ, ◌+◌, ◌-◌, ◌^◌, ◌<◌, ◌≤◌, min, Bool, true, false, cond, not, ltb, List, [], ◌∷◌, ◌++◌, map, length, get_or, take, set, Ok, Err, Result, sym, refl, ap, ◌∙◌, subst, subst₂, append-nil, add-zero, arith}
+use Rattle.std.proofs.Common.{◌≡◌, ℕ, ◌+◌, ◌-◌, ◌^◌, ◌<◌, ◌≤◌, min, true, false, cond, not, ltb, List, [], ◌∷◌, map, length, get_or, take, set, Ok, Err, Result, sym, refl, ap, ◌∙◌, subst, subst₂, append-nil, add-zero, arith}
 use native.Mathlib.Nat.{sub-zero}
 use Rattle.std.proofs.lemmas.Bool.{cond-true, cond-false, le-ltb, lt-ltb}
 use Rattle.grammar.specs.Refusals.{told}
@@ -15,7 +15,7 @@ use Rattle.line.specs.PlanLines.{PlanLine, fresh_plan_line, plan_line_of}
 use Rattle.plan.specs.declared.entry.Entry.{Entry}
 use Rattle.plan.specs.Turns.{SlipModel, book}
 use Rattle.plan.specs.Entries.{entry}
-use Rattle.plan.specs.Model.{Model, BookStepped, Stepped, plan_line, entry_of, booking, not_booking, refusing, freshening}
+use Rattle.plan.specs.Model.{Model, plan_line, entry_of, booking, not_booking, refusing, freshening}
 use Rattle.plan.specs.Calls.{book_call, withdraw_call}
 use Rattle.plan.specs.Admission.{Admitted}
 use Rattle.plan.specs.EntryNumbers.{numbers_of}

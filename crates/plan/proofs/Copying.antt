@@ -1,5 +1,5 @@
 -- Codes copied one by one behind the first numbers of a list.
-use Rattle.std.proofs.Common.{◌≡◌, ℕ, ◌+◌, ◌<◌, ◌≤◌, List, [], ◌∷◌, ◌++◌, length, get_or, take, set, sym, refl, ap, ◌∙◌, append_assoc, append-nil, add-zero, add_assoc}
+use Rattle.std.proofs.Common.{◌≡◌, ℕ, ◌+◌, ◌<◌, List, [], ◌∷◌, ◌++◌, length, get_or, take, set, sym, ap, ◌∙◌, append_assoc, append-nil, add-zero, add_assoc}
 use Rattle.std.proofs.lemmas.List.{take_more, take_more_set}
 
 pub copied_none : (xs codes : List ℕ) (p : ℕ) → take (p + 0) xs ≡ take p xs ++ take 0 codes

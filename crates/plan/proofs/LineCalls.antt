@@ -1,13 +1,9 @@
 -- Turns on one line as calls of the plan.
-use Rattle.std.proofs.Common.{◌≡◌, ℕ, ◌<◌, Bool, true, false, cond, not, ltb, List, map, length, get_or, set, Ok, Err, Result, sym, refl, ap, ◌∙◌, subst, arith}
+use Rattle.std.proofs.Common.{◌≡◌, ℕ, ◌<◌, Bool, true, false, cond, not, ltb, List, map, length, get_or, set, Ok, Err, Result, sym, refl, ap, ◌∙◌, arith}
 use mathlib.Core.Bool.{beq}
-use mathlib.Core.Option.{Option}
 use Rattle.std.proofs.lemmas.List.{set-get_or, get_or-map, map-set}
 use Rattle.std.proofs.lemmas.Bool.{cond-true, cond-false, le-ltb}
-use Rattle.grammar.specs.Grammar.{Grammar}
-use Rattle.grammar.specs.States.{Automaton}
 use Rattle.grammar.specs.Line.{Turned, after, take_word, judge_line}
-use Rattle.grammar.specs.declared.action.Action.{Action}
 use Rattle.grammar.specs.declared.refusal.Refusal.TheVariants.{Status}
 use Rattle.tables.specs.Held.{Held, blank, holding}
 use Rattle.line.specs.declared.line.Line.{Line as Arrays}
@@ -15,7 +11,7 @@ use Rattle.line.specs.Answers.{Answer, given, refused}
 use Rattle.line.specs.PlanLines.{PlanLine, fresh_plan_line, plan_line_of}
 use Rattle.line.specs.LineTurns.{LineTurn, refusing as not_on, word_turned, judge_turned, word_on, judge_on}
 use Rattle.plan.specs.Turns.{SlipModel}
-use Rattle.plan.specs.Model.{Model, Stepped, plan_line, with_plan_line, refusing, word_stepped, judge_stepped, freshening, word_turn, judge_turn, withdraw_turn, clear_turn}
+use Rattle.plan.specs.Model.{Model, Stepped, plan_line, with_plan_line, refusing, word_stepped, judge_stepped, freshening, clear_turn}
 use Rattle.plan.specs.Calls.{word_call, judge_call, withdraw_call, clear_call}
 use Rattle.plan.specs.Admission.{Admitted}
 use Rattle.plan.specs.Lines.{counted, Cleared}

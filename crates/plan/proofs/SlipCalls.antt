@@ -1,6 +1,5 @@
 -- Slips given out, and slips handed back.
 use Rattle.std.proofs.Common.{◌≡◌, ℕ, ◌<◌, Bool, true, false, cond, not, ltb, List, map, length, get_or, set, Ok, Err, Result, sym, refl, ap, ◌∙◌, subst, arith, length-set, get_or-set_same}
-use Rattle.std.proofs.lemmas.List.{map-set}
 use Rattle.std.proofs.lemmas.Bool.{cond_both, ltb-false}
 use Rattle.grammar.specs.Line.{Turned, after, judge_line}
 use Rattle.grammar.specs.declared.refusal.Refusal.{Refusal}
@@ -10,10 +9,10 @@ use Rattle.tables.specs.Held.{Held, blank, holding}
 use Rattle.line.specs.declared.line.Line.{Line as Arrays}
 use Rattle.line.specs.Answers.{Answer, given, refused}
 use Rattle.line.specs.PlanLines.{PlanLine, fresh_plan_line, plan_line_of}
-use Rattle.line.specs.LineTurns.{LineTurn, refusing as not_on, judge_turned, judge_on}
+use Rattle.line.specs.LineTurns.{refusing as not_on, judge_turned, judge_on}
 use Rattle.plan.specs.declared.slip.Slip.{Slip}
 use Rattle.plan.specs.Turns.{SlipModel}
-use Rattle.plan.specs.Model.{Model, Stepped, BookStepped, plan_line, entry_of, refusing, judge_stepped, judge_turn, booking, not_booking, book_turn}
+use Rattle.plan.specs.Model.{Model, Stepped, BookStepped, plan_line, entry_of, judge_stepped}
 use Rattle.plan.specs.Calls.{judge_call, book_call, withdraw_call}
 use Rattle.plan.specs.Admission.{Admitted}
 use Rattle.plan.specs.Slips.{slip_of, slip_answer}

@@ -5,12 +5,12 @@ use Rattle.tables.specs.declared.tables.Tables.{Tables}
 use Rattle.tables.specs.Building.{held}
 use Rattle.tables.specs.Held.{Held}
 use Rattle.line.specs.Answers.{Answer, given, refused}
-use Rattle.plan.specs.Turns.{SlipModel, Turn, word, judge, book, withdraw, clear}
+use Rattle.plan.specs.Turns.{SlipModel, Turn, word, judge, book, clear}
 use Rattle.plan.specs.declared.lines.Lines.{Lines}
 use Rattle.plan.specs.Model.{Model}
 use Rattle.plan.specs.Plans.{model_of}
 use Rattle.plan.specs.LawKept.{KeepsLaw}
-use Rattle.plan.specs.WholeLines.{Taken, no_word, one_more, Judging, all_taken, not_taken, Withdrawing, SettlingSlip, booked, withdrawn, Settling, WholeLine, Made}
+use Rattle.plan.specs.WholeLines.{Taken, no_word, one_more, Judging, all_taken, not_taken, Withdrawing, SettlingSlip, booked, withdrawn, WholeLine, Made}
 use Rattle.plan.proofs.LawKept.{none_kept, then_kept}
 
 -- A plan and its book.

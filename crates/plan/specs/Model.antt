@@ -1,12 +1,12 @@
 -- A plan as plain values, and the step of each call on it.
-use Rattle.std.specs.Prelude.{ℕ, ◌+◌, ◌-◌, ◌^◌, min, Bool, true, false, cond, not, List, [], length, replicate, nat_lt, slice_index_or, slice_set}
+use Rattle.std.specs.Prelude.{ℕ, ◌+◌, ◌-◌, ◌^◌, min, true, false, cond, not, List, [], length, replicate, nat_lt, slice_index_or, slice_set}
 use Rattle.std.proofs.Math.Option.{Option}
 use Rattle.grammar.specs.Grammar.{Grammar}
 use Rattle.grammar.specs.States.{Automaton}
 use Rattle.grammar.specs.Line.{Line, Turned, after, take_word, judge_line}
 use Rattle.grammar.specs.declared.action.Action.{Action}
 use Rattle.line.specs.Answers.{Answer, given, refused}
-use Rattle.line.specs.PlanLines.{PlanLine, fresh_plan_line}
+pub use Rattle.line.specs.PlanLines.{PlanLine, fresh_plan_line}
 use Rattle.plan.specs.Turns.{SlipModel}
 use Rattle.plan.specs.Entries.{entry}
 

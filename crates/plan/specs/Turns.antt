@@ -1,6 +1,6 @@
 -- The turns of a plan: each of its five calls with the arguments and the answer.
 use Rattle.std.specs.Prelude.{ℕ}
-use Rattle.line.specs.Answers.{Answer}
+pub use Rattle.line.specs.Answers.{Answer, given, refused}
 
 -- A slip: the designer of a judged line, and how many words and derivation steps the line has.
 pub record SlipModel : Type 0 where

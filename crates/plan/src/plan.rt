@@ -29,7 +29,7 @@ impl<B: Book> Plan<B> {
     pub fn open(tables: Tables, book: B) -> Plan<B>
         ensures kept { (result.tables ≡ tables) × (result.book ≡ book) }
         ensures fresh { model_of result.lines result.booked ≡ opened_model }
-        ensures law { BeginsLaw (held tables) (model_of result.lines result.booked) (list book) (free book) }
+        ensures law { BeginsLaw (held tables) (model_of result.lines result.booked) (B.list book) (B.free book) }
     {
         Plan {
             tables,
@@ -50,7 +50,7 @@ impl<B: Book> Plan<B> {
     pub fn word(&mut self, designer: u8, word: u16) -> Result<u16, Refusal>
         ensures step { word_call (held self.old.tables) (model_of self.old.lines self.old.booked) designer word ≡ record { answer = answer_of result; next = model_of self.new.lines self.new.booked } }
         ensures kept { (self.new.tables ≡ self.old.tables) × (self.new.book ≡ self.old.book) }
-        ensures law { KeepsLaw (held self.old.tables) (model_of self.old.lines self.old.booked) (list self.old.book) (free self.old.book) (word_made designer word result) (model_of self.new.lines self.new.booked) (list self.new.book) (free self.new.book) }
+        ensures law { KeepsLaw (held self.old.tables) (model_of self.old.lines self.old.booked) (B.list self.old.book) (B.free self.old.book) (word_made designer word result) (model_of self.new.lines self.new.booked) (B.list self.new.book) (B.free self.new.book) }
     {
         self.lines.word(&self.tables, designer, word)
     }
@@ -60,14 +60,14 @@ impl<B: Book> Plan<B> {
         ensures step { judge_call (held self.old.tables) (model_of self.old.lines self.old.booked) designer ≡ record { answer = slip_answer result; next = model_of self.new.lines self.new.booked } }
         ensures kept { (self.new.tables ≡ self.old.tables) × (self.new.book ≡ self.old.book) }
         ensures waiting { Waiting (held self.new.tables) (model_of self.new.lines self.new.booked) result }
-        ensures law { KeepsLaw (held self.old.tables) (model_of self.old.lines self.old.booked) (list self.old.book) (free self.old.book) (judge_made designer result) (model_of self.new.lines self.new.booked) (list self.new.book) (free self.new.book) }
+        ensures law { KeepsLaw (held self.old.tables) (model_of self.old.lines self.old.booked) (B.list self.old.book) (B.free self.old.book) (judge_made designer result) (model_of self.new.lines self.new.booked) (B.list self.new.book) (B.free self.new.book) }
     {
         self.lines.judge(&self.tables, designer)
     }
 
     // Books the judged line of a designer: its whole entry goes into the book, or nothing.
     fn book_line(&mut self, designer: u8) -> Result<u64, Refusal>
-        ensures booked { LineBooked list free grows (held self.old.tables) (model_of self.old.lines self.old.booked) self.old.book designer result (model_of self.new.lines self.new.booked) self.new.book }
+        ensures booked { LineBooked B.list B.free B.grows (held self.old.tables) (model_of self.old.lines self.old.booked) self.old.book designer result (model_of self.new.lines self.new.booked) self.new.book }
         ensures kept { self.new.tables ≡ self.old.tables }
     {
         let entry = self.lines.entry(&self.tables, designer)?;
@@ -81,11 +81,11 @@ impl<B: Book> Plan<B> {
 
     // Books a judged line, which is then fresh, and answers how many lines were booked since the opening; refused, the slip is handed back.
     pub fn book(&mut self, slip: Slip) -> Result<u64, (Refusal, Slip)>
-        ensures step { ((book_call (held self.old.tables) (model_of self.old.lines self.old.booked) (free self.old.book) (slip_of slip)).answer ≡ handed_answer result) × ((book_call (held self.old.tables) (model_of self.old.lines self.old.booked) (free self.old.book) (slip_of slip)).next ≡ model_of self.new.lines self.new.booked) }
-        ensures written { BookGrows grows self.old.book (book_call (held self.old.tables) (model_of self.old.lines self.old.booked) (free self.old.book) (slip_of slip)).written result self.new.book }
+        ensures step { ((book_call (held self.old.tables) (model_of self.old.lines self.old.booked) (B.free self.old.book) (slip_of slip)).answer ≡ handed_answer result) × ((book_call (held self.old.tables) (model_of self.old.lines self.old.booked) (B.free self.old.book) (slip_of slip)).next ≡ model_of self.new.lines self.new.booked) }
+        ensures written { BookGrows B.grows self.old.book (book_call (held self.old.tables) (model_of self.old.lines self.old.booked) (B.free self.old.book) (slip_of slip)).written result self.new.book }
         ensures back { HandedBack slip result }
         ensures kept { self.new.tables ≡ self.old.tables }
-        ensures law { KeepsLaw (held self.old.tables) (model_of self.old.lines self.old.booked) (list self.old.book) (free self.old.book) (book_made slip result) (model_of self.new.lines self.new.booked) (list self.new.book) (free self.new.book) }
+        ensures law { KeepsLaw (held self.old.tables) (model_of self.old.lines self.old.booked) (B.list self.old.book) (B.free self.old.book) (book_made slip result) (model_of self.new.lines self.new.booked) (B.list self.new.book) (B.free self.new.book) }
     {
         match self.book_line(slip.designer()) {
             Ok(count) => {
@@ -101,7 +101,7 @@ impl<B: Book> Plan<B> {
         ensures step { withdraw_call (held self.old.tables) (model_of self.old.lines self.old.booked) (slip_of slip) ≡ record { answer = handed_answer result; next = model_of self.new.lines self.new.booked } }
         ensures back { HandedBack slip result }
         ensures kept { (self.new.tables ≡ self.old.tables) × (self.new.book ≡ self.old.book) }
-        ensures law { KeepsLaw (held self.old.tables) (model_of self.old.lines self.old.booked) (list self.old.book) (free self.old.book) (withdraw_made slip result) (model_of self.new.lines self.new.booked) (list self.new.book) (free self.new.book) }
+        ensures law { KeepsLaw (held self.old.tables) (model_of self.old.lines self.old.booked) (B.list self.old.book) (B.free self.old.book) (withdraw_made slip result) (model_of self.new.lines self.new.booked) (B.list self.new.book) (B.free self.new.book) }
     {
         match self.lines.freshen(&self.tables, slip.designer(), true) {
             Ok(()) => {
@@ -116,7 +116,7 @@ impl<B: Book> Plan<B> {
     pub fn clear(&mut self, designer: u8) -> Result<(), Refusal>
         ensures step { clear_call (held self.old.tables) (model_of self.old.lines self.old.booked) designer ≡ record { answer = answer_of result; next = model_of self.new.lines self.new.booked } }
         ensures kept { (self.new.tables ≡ self.old.tables) × (self.new.book ≡ self.old.book) }
-        ensures law { KeepsLaw (held self.old.tables) (model_of self.old.lines self.old.booked) (list self.old.book) (free self.old.book) (clear_made designer result) (model_of self.new.lines self.new.booked) (list self.new.book) (free self.new.book) }
+        ensures law { KeepsLaw (held self.old.tables) (model_of self.old.lines self.old.booked) (B.list self.old.book) (B.free self.old.book) (clear_made designer result) (model_of self.new.lines self.new.booked) (B.list self.new.book) (B.free self.new.book) }
     {
         self.lines.freshen(&self.tables, designer, false)
     }

@@ -15,7 +15,7 @@ use grammar::Refusal;
 impl<B: Book> Plan<B> {
     // Brings the words to the first refusal, and judges the line if there is none.
     fn judge_words(&mut self, designer: u8, words: &[u16]) -> Result<Slip, Refusal>
-        ensures made { Made (Judging designer words.now (slip_answer result)) (held self.old.tables) (model_of self.old.lines self.old.booked) (list self.old.book) (free self.old.book) (model_of self.new.lines self.new.booked) (list self.new.book) (free self.new.book) }
+        ensures made { Made (Judging designer words.now (slip_answer result)) (held self.old.tables) (model_of self.old.lines self.old.booked) (B.list self.old.book) (B.free self.old.book) (model_of self.new.lines self.new.booked) (B.list self.new.book) (B.free self.new.book) }
         ensures waiting { Waiting (held self.new.tables) (model_of self.new.lines self.new.booked) result }
         ensures kept { (self.new.tables ≡ self.old.tables) × (self.new.book ≡ self.old.book) }
     {
@@ -30,7 +30,7 @@ impl<B: Book> Plan<B> {
     // Withdraws the line of a slip that waits: this is never refused, so that no slip is lost.
     fn take_back(&mut self, slip: Slip)
         requires { SlipWaits (held self.old.tables) (model_of self.old.lines self.old.booked) (slip_of slip) }
-        ensures made { Made (Withdrawing (slip_of slip)) (held self.old.tables) (model_of self.old.lines self.old.booked) (list self.old.book) (free self.old.book) (model_of self.new.lines self.new.booked) (list self.new.book) (free self.new.book) }
+        ensures made { Made (Withdrawing (slip_of slip)) (held self.old.tables) (model_of self.old.lines self.old.booked) (B.list self.old.book) (B.free self.old.book) (model_of self.new.lines self.new.booked) (B.list self.new.book) (B.free self.new.book) }
         ensures kept { (self.new.tables ≡ self.old.tables) × (self.new.book ≡ self.old.book) }
     {
         match self.withdraw(slip) {
@@ -42,8 +42,8 @@ impl<B: Book> Plan<B> {
     // Books the line of a slip that waits, or withdraws it where booking is refused.
     fn settle(&mut self, slip: Slip) -> Result<u64, Refusal>
         requires { SlipWaits (held self.old.tables) (model_of self.old.lines self.old.booked) (slip_of slip) }
-        ensures made { Made (SettlingSlip (slip_of slip) (answer_of result)) (held self.old.tables) (model_of self.old.lines self.old.booked) (list self.old.book) (free self.old.book) (model_of self.new.lines self.new.booked) (list self.new.book) (free self.new.book) }
-        ensures grown { Grown grows self.old.book self.new.book }
+        ensures made { Made (SettlingSlip (slip_of slip) (answer_of result)) (held self.old.tables) (model_of self.old.lines self.old.booked) (B.list self.old.book) (B.free self.old.book) (model_of self.new.lines self.new.booked) (B.list self.new.book) (B.free self.new.book) }
+        ensures grown { Grown B.grows self.old.book self.new.book }
         ensures kept { self.new.tables ≡ self.old.tables }
     {
         match self.book(slip) {
@@ -57,8 +57,8 @@ impl<B: Book> Plan<B> {
 
     // Brings the words to a designer's line, judges it and books it, to the first refusal; a judged line is then withdrawn, and an open one cleared.
     pub fn book_words(&mut self, designer: u8, words: &[u16]) -> Result<u64, Refusal>
-        ensures made { Made (WholeLine designer words.now (answer_of result)) (held self.old.tables) (model_of self.old.lines self.old.booked) (list self.old.book) (free self.old.book) (model_of self.new.lines self.new.booked) (list self.new.book) (free self.new.book) }
-        ensures grown { Grown grows self.old.book self.new.book }
+        ensures made { Made (WholeLine designer words.now (answer_of result)) (held self.old.tables) (model_of self.old.lines self.old.booked) (B.list self.old.book) (B.free self.old.book) (model_of self.new.lines self.new.booked) (B.list self.new.book) (B.free self.new.book) }
+        ensures grown { Grown B.grows self.old.book self.new.book }
         ensures kept { self.new.tables ≡ self.old.tables }
     {
         match self.judge_words(designer, words) {

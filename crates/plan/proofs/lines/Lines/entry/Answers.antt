@@ -1,4 +1,4 @@
-use Rattle.std.proofs.Common.{◌≡◌, sym, ap, ◌∙◌, ap₂, rules}
+use Rattle.std.proofs.Common.{sym, ◌∙◌, ap₂, rules}
 use Rattle.tables.specs.Building.{held}
 use Rattle.plan.specs.Entries.{entry}
 use Rattle.plan.proofs.BookCalls.{entry_open, entry_judged}

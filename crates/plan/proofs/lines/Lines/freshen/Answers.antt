@@ -1,4 +1,4 @@
-use Rattle.std.proofs.Common.{◌≡◌, not, sym, ap, ◌∙◌, rules}
+use Rattle.std.proofs.Common.{not, sym, ap, ◌∙◌, rules}
 use mathlib.Core.Bool.{beq}
 use Rattle.tables.specs.Building.{held}
 use Rattle.plan.proofs.LineCalls.{fresh_refused, fresh_done}

@@ -1,4 +1,4 @@
-use Rattle.std.proofs.Common.{[], ◌∷◌, sym, ap, ◌∙◌, subst}
+use Rattle.std.proofs.Common.{[], ◌∷◌, sym, ◌∙◌, subst}
 use Rattle.grammar.specs.Refusals.{told}
 use Rattle.tables.specs.Building.{held}
 use Rattle.line.specs.Answers.{answer_of}

@@ -4,7 +4,7 @@ use Rattle.tables.specs.Building.{held}
 use Rattle.line.specs.Answers.{given, refused}
 use Rattle.plan.specs.Turns.{word, judge}
 use Rattle.plan.specs.Slips.{slip_answer}
-use Rattle.plan.proofs.WholeLines.{Side, side, by_tables, taken_none, taken_more, taken_refused, taken_judged}
+use Rattle.plan.proofs.WholeLines.{side, by_tables, taken_none, taken_more, taken_refused, taken_judged}
 use Rattle.plan.proofs.plan.Plan.judge_words.Goals as goal
 
 pub loop-word-init : goal.loop-word-init

@@ -1,6 +1,6 @@
 use Rattle.std.proofs.Common.{◌≡◌, sym, refl, ap, subst}
 use Rattle.tables.specs.Building.{held}
-use Rattle.plan.specs.Model.{Model, opened_model}
+use Rattle.plan.specs.Model.{opened_model}
 use Rattle.plan.specs.LawKept.{BeginsLaw}
 use Rattle.plan.specs.Lines.{counted}
 use Rattle.plan.specs.Plans.{model_of}

@@ -1,4 +1,4 @@
-use Rattle.std.proofs.Common.{ℕ, List, [], sym, ap, ◌∙◌, subst}
+use Rattle.std.proofs.Common.{[], sym, ◌∙◌, subst}
 use Rattle.grammar.specs.Refusals.{told}
 use Rattle.tables.specs.Building.{held}
 use Rattle.plan.specs.Plans.{model_of}
