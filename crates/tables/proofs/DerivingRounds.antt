@@ -1,6 +1,6 @@
 -- The marks that rounds over the rules leave are those of the codes that derive the first words.
 use Rattle.std.proofs.Common.{◌≡◌, ℕ, ◌+◌, ◌*◌, ◌<◌, ◌≤◌, Bool, true, false, List, [], ◌∷◌, ◌++◌, length, get_or, set, replicate, sym, refl, ◌∙◌, subst, inl, inr, arith}
-use Rattle.std.specs.List.{AllByRecursion as All}
+use Rattle.std.specs.List.{AllByRecursion}
 use Rattle.std.proofs.ByRecursion.{All-get_or, All-from_get_or, All-append}
 use Rattle.std.proofs.lemmas.List.{length-set}
 use Rattle.std.proofs.lemmas.Bool.{cases_eq}
@@ -17,11 +17,11 @@ use Rattle.tables.specs.ProductiveMarks.{ProductiveMarks}
 use Rattle.tables.proofs.RuleArrays.{terminals_is, is_rule_lem, rule_high, left_is, right_length, right_code}
 use Rattle.tables.proofs.TruthLists.{in_none, in_set, in_keeps, in_split, falses_set}
 
-all_front : (P : ℕ → Type 0) (ws vs : List ℕ) → All P (ws ++ vs) → All P ws
+all_front : (P : ℕ → Type 0) (ws vs : List ℕ) → AllByRecursion P (ws ++ vs) → AllByRecursion P ws
 all_front P [] vs h = tt
 all_front P (w ∷ ws) vs h = (h.0, all_front P ws vs h.1)
 
-all_back : (P : ℕ → Type 0) (ws vs : List ℕ) → All P (ws ++ vs) → All P vs
+all_back : (P : ℕ → Type 0) (ws vs : List ℕ) → AllByRecursion P (ws ++ vs) → AllByRecursion P vs
 all_back P [] vs h = h
 all_back P (w ∷ ws) vs h = all_back P ws vs h.1
 
@@ -41,7 +41,7 @@ marks_more n marks low l m =
 
 module _ (G : Grammar) (n : ℕ) where
   -- Trees side by side.
-  forest : (Xs : List ℕ) → All (DerivesWords G n) Xs → (ws ps : List ℕ) × All (λ w. w ≤ n) ws × Forest G Xs ws ps
+  forest : (Xs : List ℕ) → AllByRecursion (DerivesWords G n) Xs → (ws ps : List ℕ) × AllByRecursion (λ w. w ≤ n) ws × Forest G Xs ws ps
   forest [] h = ([], [], tt, empty)
   forest (X ∷ Xs) h =
       let t = h.0 in
@@ -49,12 +49,12 @@ module _ (G : Grammar) (n : ℕ) where
       (t.words ++ f.0, t.rules ++ f.1, All-append (λ w. w ≤ n) t.words f.0 t.low f.2, join t.tree f.3)
 
   -- A rule over codes that derive the first words.
-  by_rule : (r : ℕ) → IsRule G r → All (DerivesWords G n) (right_side G r) → DerivesWords G n (left_side G r)
+  by_rule : (r : ℕ) → IsRule G r → AllByRecursion (DerivesWords G n) (right_side G r) → DerivesWords G n (left_side G r)
   by_rule r i h = let f = forest (right_side G r) h in record { words = f.0; rules = f.1 ++ r ∷ []; low = f.2; tree = tree i f.3 }
 
   -- Marks that have the first words, and the left side of each rule with its right side, have the roots of trees over the words.
-  module _ (marks : List Bool) (keeps : (w : ℕ) → IsTerminal G w → w ≤ n → Marked marks w) (closed : (r : ℕ) → IsRule G r → All (Marked marks) (right_side G r) → Marked marks (left_side G r)) where
-    roots : {Xs ws ps : List ℕ} → Forest G Xs ws ps → All (λ w. w ≤ n) ws → All (Marked marks) Xs
+  module _ (marks : List Bool) (keeps : (w : ℕ) → IsTerminal G w → w ≤ n → Marked marks w) (closed : (r : ℕ) → IsRule G r → AllByRecursion (Marked marks) (right_side G r) → Marked marks (left_side G r)) where
+    roots : {Xs ws ps : List ℕ} → Forest G Xs ws ps → AllByRecursion (λ w. w ≤ n) ws → AllByRecursion (Marked marks) Xs
     roots empty h = tt
     roots (leaf {w = w} i f) h = (keeps w i h.0, roots f h.1)
     roots (node {r = r} {ws = ws} {vs = vs} i f g) h =
@@ -62,7 +62,7 @@ module _ (G : Grammar) (n : ℕ) where
 
 module _ (G : Grammar) (marks : List Bool) where
   -- Without a word that is at most 0, the list of words is empty.
-  no_words : (ws : List ℕ) → AllTerminals G ws → All (λ w. w ≤ 0) ws → ws ≡ []
+  no_words : (ws : List ℕ) → AllTerminals G ws → AllByRecursion (λ w. w ≤ 0) ws → ws ≡ []
   no_words [] t h = refl
   no_words (w ∷ ws) t h = absurd (omega (arith, t.0.low, h.0))
 
@@ -73,7 +73,7 @@ module _ (G : Grammar) (marks : List Bool) where
         whole = λ X t. m.whole X (record { words = []; rules = t.0; low = tt; tree = t.1 });
       }
 
-  all_low : (ws : List ℕ) → AllTerminals G ws → All (λ w. w ≤ G.terminals) ws
+  all_low : (ws : List ℕ) → AllTerminals G ws → AllByRecursion (λ w. w ≤ G.terminals) ws
   all_low [] t = tt
   all_low (w ∷ ws) t = (t.0.high, all_low ws t.1)
 
@@ -86,13 +86,13 @@ module _ (G : Grammar) (marks : List Bool) where
 
 module _ (R : Rules) where
   -- The right side of a rule, in the array and in the grammar.
-  right_all : (P : ℕ → Type 0) (r : ℕ) → IsRule (grammar_of R) r → ((d : ℕ) → d < get_or R.size r 0 → P (get_or R.right (9 * r + d) 0)) → All P (right_side (grammar_of R) r)
+  right_all : (P : ℕ → Type 0) (r : ℕ) → IsRule (grammar_of R) r → ((d : ℕ) → d < get_or R.size r 0 → P (get_or R.right (9 * r + d) 0)) → AllByRecursion P (right_side (grammar_of R) r)
   right_all P r i h =
       All-from_get_or P (right_side (grammar_of R) r) 0 λ d l.
       let k : d < get_or R.size r 0 = omega (arith, right_length R r (rule_high R r i)) in
       subst P (right_code R r d (omega (arith, R.short r))) (h d k)
 
-  all_right : (P : ℕ → Type 0) (r : ℕ) → IsRule (grammar_of R) r → All P (right_side (grammar_of R) r) → (d : ℕ) → d < get_or R.size r 0 → P (get_or R.right (9 * r + d) 0)
+  all_right : (P : ℕ → Type 0) (r : ℕ) → IsRule (grammar_of R) r → AllByRecursion P (right_side (grammar_of R) r) → (d : ℕ) → d < get_or R.size r 0 → P (get_or R.right (9 * r + d) 0)
   all_right P r i h d l =
       subst P (sym (right_code R r d (omega (arith, R.short r))))
       (All-get_or P (right_side (grammar_of R) r) d 0 (omega (arith, right_length R r (rule_high R r i))) h)

@@ -1,6 +1,6 @@
 -- Codes that derive lists of the first words, and the rounds over the rules that find them.
 use Rattle.std.specs.Prelude.{◌≡◌, ℕ, ◌+◌, ◌*◌, ◌<◌, ◌≤◌, Bool, false, List, slice_index, slice_index_or}
-use Rattle.std.specs.List.{AllByRecursion as All}
+use Rattle.std.specs.List.{AllByRecursion}
 use Rattle.grammar.specs.Grammar.{Grammar}
 use Rattle.grammar.specs.Trees.{Tree}
 use Rattle.tables.specs.declared.rules.Rules.{Rules}
@@ -10,7 +10,7 @@ use Rattle.tables.specs.CodeMarks.{Marked, MarksOf}
 pub record DerivesWords (G : Grammar) (n X : ℕ) : Type 0 where
   pub words : List ℕ
   pub rules : List ℕ
-  pub low : All (λ w. w ≤ n) words
+  pub low : AllByRecursion (λ w. w ≤ n) words
   pub tree : Tree G X words rules
 
 -- The codes from 1 to below n are marked.

@@ -1,6 +1,6 @@
 -- What the walks over a written sheet put together.
 use Rattle.std.proofs.Common.{◌≡◌, ℕ, zero, suc, ◌≤◌, true, false, List, [], ◌∷◌, map, length, take, sym, ap, ◌∙◌, subst, arith}
-use Rattle.std.specs.List.{AllByRecursion as All}
+use Rattle.std.specs.List.{AllByRecursion}
 use Rattle.std.proofs.ByRecursion.{All-get_or, All-from_get_or}
 use Rattle.std.proofs.lemmas.List.{length-take}
 use Rattle.grammar.specs.Grammar.{Rule, Grammar, IsRule, right_side, no_rule}
@@ -18,21 +18,21 @@ use Rattle.written.proofs.Drafting.{Done, draft_sheet}
 use Rattle.written.proofs.Overfull.{overfull_fails}
 
 -- The right sides of a grammar are short exactly when those of its rules are.
-pub short_rights : (G : Grammar) → All (λ r. length r.right ≤ 8) G.rules → (r : ℕ) → IsRule G r → length (right_side G r) ≤ 8
+pub short_rights : (G : Grammar) → AllByRecursion (λ r. length r.right ≤ 8) G.rules → (r : ℕ) → IsRule G r → length (right_side G r) ≤ 8
 unfolding right_side
 short_rights G a zero i = absurd (let h = i.low in omega arith)
 short_rights G a (suc k) i = All-get_or (λ r. length r.right ≤ 8) G.rules k no_rule (let h = i.high in omega arith) a
 
-pub short_rules : (G : Grammar) → ((r : ℕ) → IsRule G r → length (right_side G r) ≤ 8) → All (λ r. length r.right ≤ 8) G.rules
+pub short_rules : (G : Grammar) → ((r : ℕ) → IsRule G r → length (right_side G r) ≤ 8) → AllByRecursion (λ r. length r.right ≤ 8) G.rules
 unfolding right_side
 short_rules G a = All-from_get_or (λ r. length r.right ≤ 8) G.rules no_rule (λ k h. a (suc k) (record { low = omega arith; high = omega arith }))
 
-all_short : (rs : List ShortRule) → All (λ r. length r.right ≤ 8) (map short_rule rs)
+all_short : (rs : List ShortRule) → AllByRecursion (λ r. length r.right ≤ 8) (map short_rule rs)
 all_short [] = tt
 all_short (r ∷ rs) = (let long = length-take r.size r.codes in omega (arith, r.short), all_short rs)
 
 -- The rules of a table are short.
-pub table_short : (t : RuleTable) → All (λ r. length r.right ≤ 8) (rule_list t)
+pub table_short : (t : RuleTable) → AllByRecursion (λ r. length r.right ≤ 8) (rule_list t)
 table_short t = all_short (take t.count t.rules)
 
 same_grammar : {t u n m : ℕ} {rs qs : List Rule} → t ≡ u → n ≡ m → rs ≡ qs → ◌≡◌ {A = Grammar} (record { terminals = t; nonterminals = n; rules = rs }) (record { terminals = u; nonterminals = m; rules = qs })
@@ -66,7 +66,7 @@ module _ (text : List ℕ) (ts : List Placed) (ss : List Statement) (w : Written
       overfull_fails (terminals_of ss) (nonterminals_of ss) moved.2 moved.0 moved.1 (ap (λ d. d.rule.right) (sym same) ∙ done.nothing) (subst Fitting (sym (ap (λ d. d.rules) (sym same) ∙ done.rules)) fitting)
 
   module _ (words heads : List (List ℕ)) (rules : List Rule) (w_is : words ≡ terminals_of ss) (h_is : heads ≡ nonterminals_of ss) (r_is : rules ≡ (grammar_of ss).rules) where
-    pub sheet_filled : 1 ≤ length words → length words ≤ 63 → 1 ≤ length heads → length heads ≤ 24 → 1 ≤ length rules → length rules ≤ 96 → All (λ r. length r.right ≤ 8) rules
+    pub sheet_filled : 1 ≤ length words → length words ≤ 63 → 1 ≤ length heads → length heads ≤ 24 → 1 ≤ length rules → length rules ≤ 96 → AllByRecursion (λ r. length r.right ≤ 8) rules
         → Filled true (record { terminals = length words; nonterminals = length heads; rules = rules }) words heads ss
     sheet_filled w1 w63 h1 h24 r1 r96 short =
         let G : Grammar = record { terminals = length words; nonterminals = length heads; rules = rules } in

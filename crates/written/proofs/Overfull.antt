@@ -1,6 +1,6 @@
 -- A draft that is too much stays too much.
 use Rattle.std.proofs.Common.{◌≡◌, ℕ, ◌<◌, ◌≤◌, true, false, cond, List, [], ◌∷◌, ◌++◌, length, sym, refl, ap, ◌∙◌, subst, ⊎_elim, arith}
-use Rattle.std.specs.List.{AllByRecursion as All}
+use Rattle.std.specs.List.{AllByRecursion}
 use Rattle.std.proofs.lemmas.List.{append_assoc, append-nil, length-append}
 use Rattle.grammar.specs.Grammar.{Rule}
 use Rattle.written.specs.Tokens.{Token, name, word, colon, bar, semicolon}
@@ -40,7 +40,7 @@ module _ (T N : List (List ℕ)) where
   after_long (bar ∷ ts) d h e = let later = after_rules ts (draft_step T N d bar) in (d.rules, d.rule, later.0, later.1 ∙ append_assoc d.rules (d.rule ∷ []) later.0, h)
   after_long (semicolon ∷ ts) d h e = let later = after_rules ts (draft_step T N d semicolon) in (d.rules, d.rule, later.0, later.1 ∙ append_assoc d.rules (d.rule ∷ []) later.0, h)
 
-  all_at : (P : Rule → Type 0) (before : List Rule) (r : Rule) (more : List Rule) → All P (before ++ r ∷ more) → P r
+  all_at : (P : Rule → Type 0) (before : List Rule) (r : Rule) (more : List Rule) → AllByRecursion P (before ++ r ∷ more) → P r
   all_at P [] r more a = a.0
   all_at P (x ∷ before) r more a = all_at P before r more a.1
 
@@ -49,7 +49,7 @@ module _ (T N : List (List ℕ)) where
       ⊎_elim
       (λ long.
       let bad = after_long ts d long e in
-      let here = all_at (λ r. length r.right ≤ 8) bad.0 bad.1 bad.2 (subst (All (λ r. length r.right ≤ 8)) bad.3 f.short) in
+      let here = all_at (λ r. length r.right ≤ 8) bad.0 bad.1 bad.2 (subst (AllByRecursion (λ r. length r.right ≤ 8)) bad.3 f.short) in
       omega (arith, bad.4))
       (λ many.
       let later = after_rules ts d in

@@ -1,6 +1,6 @@
 -- How the rules of a written sheet come out of its tokens, one by one.
 use Rattle.std.specs.Prelude.{◌≡◌, ℕ, ◌<◌, ◌≤◌, Bool, true, false, cond, ◌⊎◌, List, [], ◌∷◌, ◌++◌, length}
-use Rattle.std.specs.List.{AllByRecursion as All}
+use Rattle.std.specs.List.{AllByRecursion}
 use Rattle.grammar.specs.Grammar.{Rule}
 use Rattle.written.specs.Tokens.{Token, name, word, colon, bar, semicolon}
 use Rattle.written.specs.Statements.{name_code, word_code}
@@ -64,4 +64,4 @@ Read false terminals nonterminals d ts = (e : Drafted) × Overfull e × (rest : 
 -- At most 96 rules of at most eight codes.
 pub record Fitting (rules : List Rule) : Type 0 where
   pub few : length rules ≤ 96
-  pub short : All (λ r. length r.right ≤ 8) rules
+  pub short : AllByRecursion (λ r. length r.right ≤ 8) rules
