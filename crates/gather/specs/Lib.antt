@@ -1,6 +1,7 @@
 pub mod Bits
 pub mod Members
 pub mod Marks
+pub mod MarkLaws
 pub mod Reach
 pub mod Gathered
 pub mod Stack

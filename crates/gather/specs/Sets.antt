@@ -2,7 +2,7 @@
 use Rattle.std.specs.Prelude.{◌≡◌, ℕ, ◌||◌}
 use Rattle.std.proofs.Math.Bool.{or_self, or_comm, or_assoc}
 use Rattle.std.proofs.Common.{sym, ap, ◌∙◌}
-use Rattle.gather.specs.Members.{has, unite, ByMembers}
+use Rattle.gather.specs.Members.{has, no_members, unite, ByMembers}
 use Rattle.gather.specs.declared.word_set.WordSet.{WordSet}
 use Rattle.gather.specs.Bitwise.{is_bit_or, by_bits}
 
@@ -15,6 +15,9 @@ by_members a b same = ap of_bits (by_bits a.0 b.0 same)
 
 pub has_unite : (a b : WordSet) (k : ℕ) → has (unite a b) k ≡ (has a k || has b k)
 has_unite a b k = is_bit_or a.0 b.0 k
+
+pub unite_none : (a : WordSet) → unite no_members a ≡ a
+unite_none a = by_members (unite no_members a) a (λ k. has_unite no_members a k)
 
 pub unite_self : (a : WordSet) → unite a a ≡ a
 unite_self a = by_members (unite a a) a (λ k. has_unite a a k ∙ or_self (has a k))

@@ -1,6 +1,6 @@
 ghost use Rattle.gather.specs.Marks.{either_mark, marked, no_mark};
+ghost use Rattle.gather.specs.MarkLaws.{either_none, either_self, either_comm, either_assoc};
 ghost use Rattle.std.specs.Prelude.{◌≡◌};
-ghost use Rattle.std.proofs.Common.{rules};
 
 use super::join::Join;
 
@@ -31,13 +31,13 @@ impl Join for Mark {
 
     ghost op = { either_mark };
 
-    ghost unit = { Prim.search rules };
+    ghost unit = { either_none };
 
-    ghost idem = { Prim.search rules };
+    ghost idem = { either_self };
 
-    ghost comm = { Prim.search rules };
+    ghost comm = { either_comm };
 
-    ghost assoc = { Prim.search rules };
+    ghost assoc = { either_assoc };
 
     fn neutral() -> Mark {
         Self::NONE

@@ -1,7 +1,6 @@
 ghost use Rattle.std.specs.Prelude.{◌≡◌, ℕ, false, ◌&&◌, ◌||◌, ◌==◌, nat_lt};
 ghost use Rattle.gather.specs.Members.{has, no_members, unite};
-ghost use Rattle.gather.specs.Sets.{unite_self, unite_comm, unite_assoc};
-ghost use Rattle.std.proofs.Common.{rules};
+ghost use Rattle.gather.specs.Sets.{unite_none, unite_self, unite_comm, unite_assoc};
 
 use super::bits::{bit, either, only};
 use super::join::Join;
@@ -48,7 +47,7 @@ impl Join for WordSet {
 
     ghost op = { unite };
 
-    ghost unit = { Prim.search rules };
+    ghost unit = { unite_none };
 
     ghost idem = { unite_self };
 
