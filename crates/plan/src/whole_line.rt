@@ -35,7 +35,7 @@ impl<B: Book> Plan<B> {
     {
         match self.withdraw(slip) {
             Ok(()) => {}
-            Err((_, _slip)) => {}
+            Err((_, slip)) => slip.spend(),
         }
     }
 
