@@ -12,7 +12,7 @@ pub trait Book {
     // The last is the first with these numbers added at the end, in the same memory, and all else in it as it was.
     ghost grows: { Self → List ℕ → Self → Type 0 };
 
-    // What holds of every book. (Not `law` items, which an impl with a lifetime cannot have.)
+    // What holds of every book.
     ghost laws: { Laws list free grows };
 
     // How many numbers the book holds.
