@@ -26,12 +26,16 @@ abbrev pub rule_count : Held → ℕ
 rule_count blank = 0
 rule_count (holding G n A cells) = length G.rules
 
+-- A value that exactly the rules of a grammar have.
+abbrev pub if_rule : Grammar → ℕ → ℕ → Option ℕ
+if_rule G r x = cond (is_rule G r) (some x) none
+
 -- The left side of a rule of a grammar, and how long its right side is.
 abbrev pub left_at : Grammar → ℕ → Option ℕ
-left_at G r = cond (is_rule G r) (some (left_side G r)) none
+left_at G r = if_rule G r (left_side G r)
 
 abbrev pub length_at : Grammar → ℕ → Option ℕ
-length_at G r = cond (is_rule G r) (some (length (right_side G r))) none
+length_at G r = if_rule G r (length (right_side G r))
 
 abbrev pub left_of : Held → ℕ → Option ℕ
 left_of blank r = none

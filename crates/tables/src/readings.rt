@@ -4,8 +4,8 @@ ghost use Rattle.grammar.specs.StateLists.{has_at};
 ghost use Rattle.tables.specs.Answers.{as_option};
 ghost use Rattle.tables.specs.Arrays.{grammar_of};
 ghost use Rattle.tables.specs.Building.{held};
-ghost use Rattle.tables.specs.HeldReadings.{cell_of, goto_of, has_of, is_blank, left_at, left_of, length_at, length_of, nonterminal_count, rule_count, state_count, terminal_count};
-ghost use Rattle.std.specs.Prelude.{◌≡◌, [], None, slice_index_or};
+ghost use Rattle.tables.specs.HeldReadings.{cell_of, goto_of, has_of, if_rule, is_blank, left_at, left_of, length_at, length_of, nonterminal_count, rule_count, state_count, terminal_count};
+ghost use Rattle.std.specs.Prelude.{◌≡◌, ℕ, ◌≤◌, [], None, slice_index, slice_index_or};
 
 use super::goto::goto;
 use super::rules::Rules;
@@ -33,24 +33,28 @@ fn in_rows(rows: &[[Option<Action>; 64]], state: usize, word: usize) -> Option<A
     None
 }
 
-// The left side of a rule.
-fn left_side(rules: &Rules, rule: usize) -> Option<u8>
-    ensures { as_option result ≡ left_at (grammar_of rules.now) rule }
+// What an array has for a rule; none outside the rule numbers.
+fn of_rule(rules: &Rules, rule: usize, values: &[u8; 97]) -> Option<u8>
+    ensures { (x : ℕ) → (1 ≤ rule → rule ≤ rules.now.count → slice_index values.now rule ≡ x) → as_option result ≡ if_rule (grammar_of rules.now) rule x }
 {
     if rule == 0 || rule > rules.count as usize {
         return None;
     }
-    Some(rules.left[rule])
+    Some(values[rule])
+}
+
+// The left side of a rule.
+fn left_side(rules: &Rules, rule: usize) -> Option<u8>
+    ensures { as_option result ≡ left_at (grammar_of rules.now) rule }
+{
+    of_rule(rules, rule, &rules.left)
 }
 
 // How long the right side of a rule is.
 fn right_length(rules: &Rules, rule: usize) -> Option<u8>
     ensures { as_option result ≡ length_at (grammar_of rules.now) rule }
 {
-    if rule == 0 || rule > rules.count as usize {
-        return None;
-    }
-    Some(rules.size[rule])
+    of_rule(rules, rule, &rules.size)
 }
 
 // Whether a set has an item.
