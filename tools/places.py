@@ -109,7 +109,11 @@ def switches(top):
     return grep(top, r"fn .*\b[a-z_]+: bool\b|^ +[a-z_]+: bool,$|fn (past_[a-z]+|closing|step)\b")
 
 
-KINDS = [("1 answers, flags and numbers for kinds", answers), ("2 twins", twins), ("3 loops with a number kept by hand or over a range", loops), ("4 written by hand", by_hand), ("5 clauses of three functions or more", repeated_clauses), ("5 parameters that travel together", companions), ("6 buffers with a count, parallel arrays", buffers), ("7 flags that pick", switches)]
+def more(top):
+    return grep(top, r"\bas (usize|u16|u32|u64)\b|unwrap_or\(0\)|^ *let (Some|Ok)\(.*\) = .* else \{$|^ *(pub(\([a-z]+\))? )?enum [A-Z]\w* \{$|= 255;")
+
+
+KINDS = [("1 answers, flags and numbers for kinds", answers), ("2 twins", twins), ("3 loops with a number kept by hand or over a range", loops), ("4 written by hand", by_hand), ("5 clauses of three functions or more", repeated_clauses), ("5 parameters that travel together", companions), ("6 buffers with a count, parallel arrays", buffers), ("7 flags that pick", switches), ("besides: casts, 0 for none, let-else, enums, 255", more)]
 
 
 def main():

@@ -1,66 +1,58 @@
--- Memory that grows keeps its length; it may grow by nothing; and to grow twice is to grow once by both lists.
-use Rattle.std.specs.Prelude.{◌≡◌, ℕ, ◌+◌, ◌≤◌, List, [], ◌++◌, length, take, drop}
-use Rattle.std.proofs.Common.{◌∙◌, ap, sym, subst, add-zero, add_assoc, arith, length-append, length-take, length-drop}
-use Rattle.std.proofs.lemmas.List.{length-take-le, take_at, drop_at, drop-drop, append_assoc, take-append-drop}
-use Rattle.book.specs.Overwriting.{overwritten, Grown}
+-- To grow by nothing, to grow twice, and what a page that grew holds.
+use Rattle.std.specs.Prelude.{◌≡◌, ℕ, ◌+◌, ◌*◌, ◌/◌, ◌≤◌, min, List, [], ◌++◌, length, refl}
+use Rattle.std.specs.List.{flat_map}
+use Rattle.std.proofs.Common.{◌∙◌, ap, sym, subst, arith, add-zero, length-append}
+use Rattle.std.proofs.Math.Nat.{mul-zero, mul-add, le-div_iff_mul-le, mul_comm}
+use Rattle.std.proofs.Math.Path.{ap₂}
+use Rattle.std.proofs.Math.Seq.{paste}
+use Rattle.std.proofs.lemmas.Grind.{flat_map-append}
+use Rattle.std.proofs.lemmas.List.Edits.{paste_none, length-paste, paste-paste}
+use Rattle.book.specs.declared.page.Page.{Page}
+use Rattle.book.specs.Forms.{Form, read}
+use Rattle.book.specs.ReadBack.{length_written, read_paste}
+use Rattle.book.specs.Pages.{capacity_of, held_by, list_of, free_of, Grows}
 
-pub overwritten_none : (m : List ℕ) (u : ℕ) → overwritten m u [] ≡ m
-overwritten_none m u = ap (λ j. take u m ++ drop j m) (add-zero u) ∙ take-append-drop u m
+module _ {C : Type 0} {width : ℕ} (f : Form C width) where
+  -- What a page holds lies in its memory.
+  pub held_fits : (p : Page C width) → width * held_by p ≤ length p.memory.now
+  held_fits p =
+      let within : held_by p ≤ length p.memory.now / width = omega arith in
+      subst (λ k. k ≤ length p.memory.now) (mul_comm (held_by p) width) ((le-div_iff_mul-le f.positive).0 within)
 
-pub length_overwritten : (m : List ℕ) (u : ℕ) (x : List ℕ) → u + length x ≤ length m → length (overwritten m u x) ≡ length m
-length_overwritten m u x h = simp (length-append, length-take, length-drop) (omega arith)
+  -- Memory that numbers are written into keeps its length.
+  pub written_length : (p : Page C width) (ns : List ℕ) (memory : List C) → width * (held_by p + length ns) ≤ length p.memory.now → memory ≡ paste p.memory.now (width * held_by p) (flat_map f.cells ns) (width * length ns) → length memory ≡ length p.memory.now
+  written_length p ns memory fits cells =
+      ap length cells ∙ length-paste p.memory.now (width * held_by p) (flat_map f.cells ns) (width * length ns) (omega (arith, fits, mul-add width (held_by p) (length ns))) (omega (arith, length_written f ns))
 
--- the length of the memory up to the end of the cells written
-length_front : (m : List ℕ) (u : ℕ) (x : List ℕ) → u ≤ length m → length (take u m ++ x) ≡ u + length x
-length_front m u x h = length-append (take u m) x ∙ ap (λ k. k + length x) (length-take-le u m h)
+  grown_length : (p : Page C width) (ns : List ℕ) (q : Page C width) → Grows f p ns q → length q.memory.now ≡ length p.memory.now
+  grown_length p ns q g = written_length p ns q.memory.now g.fits g.cells
 
-pub take_overwritten : (m : List ℕ) (u : ℕ) (x : List ℕ) → u ≤ length m → take (u + length x) (overwritten m u x) ≡ take u m ++ x
-take_overwritten m u x h =
-    let d = drop (u + length x) m in
-    ap (take (u + length x)) (sym (append_assoc (take u m) x d)) ∙ take_at (take u m ++ x) d _ (length_front m u x h)
-
-pub drop_overwritten : (m : List ℕ) (u : ℕ) (x : List ℕ) (k : ℕ) → u ≤ length m → drop (u + length x + k) (overwritten m u x) ≡ drop (u + length x + k) m
-drop_overwritten m u x k h =
-    let v = u + length x in
-    let e : drop v (overwritten m u x) ≡ drop v m = ap (drop v) (sym (append_assoc (take u m) x (drop v m))) ∙ drop_at (take u m ++ x) (drop v m) v (length_front m u x h) in
-    sym (drop-drop k v (overwritten m u x)) ∙ ap (drop k) e ∙ drop-drop k v m
-
-pub overwritten_twice : (m : List ℕ) (u : ℕ) (x y : List ℕ) → u ≤ length m → overwritten (overwritten m u x) (u + length x) y ≡ overwritten m u (x ++ y)
-overwritten_twice m u x y h =
-    let v = u + length x in
-    let w = v + length y in
-    let e : w ≡ u + length (x ++ y) = add_assoc u (length x) (length y) ∙ ap (λ j. u + j) (sym (length-append x y)) in
-    ap (λ l. l ++ (y ++ drop w (overwritten m u x))) (take_overwritten m u x h)
-    ∙ append_assoc (take u m) x (y ++ drop w (overwritten m u x))
-    ∙ ap (λ l. take u m ++ (x ++ (y ++ l))) (drop_overwritten m u x (length y) h)
-    ∙ ap (λ l. take u m ++ l) (sym (append_assoc x y (drop w m)))
-    ∙ ap (λ j. take u m ++ ((x ++ y) ++ drop j m)) e
-
--- `spans` says that numbers fill just the cells up to the place of the next.
-module _ (place : ℕ → ℕ) (form : List ℕ → List ℕ) (none : form [] ≡ []) (joins : (xs ys : List ℕ) → form (xs ++ ys) ≡ form xs ++ form ys) (spans : (k : ℕ) (xs : List ℕ) → place (k + length xs) ≡ place k + length (form xs)) where
-  begins : (m : List ℕ) (k : ℕ) (ns : List ℕ) → place (k + length ns) ≤ length m → place k + length (form ns) ≤ length m
-  begins m k ns h = subst (λ (j : ℕ). j ≤ length m) (spans k ns) h
-
-  pub grown_length : (m : List ℕ) (k : ℕ) (ns m' : List ℕ) (k' : ℕ) → Grown place form m k ns m' k' → length m' ≡ length m
-  grown_length m k ns m' k' g = ap length g.cells ∙ length_overwritten m (place k) (form ns) (begins m k ns g.fits)
-
-  pub grown_stays : (m : List ℕ) (k : ℕ) → place k ≤ length m → Grown place form m k [] m k
-  grown_stays m k h = record {
-    fits = subst (λ (j : ℕ). place j ≤ length m) (sym (add-zero k)) h;
-    count = sym (add-zero k);
-    cells = sym (ap (overwritten m (place k)) none ∙ overwritten_none m (place k));
+  pub grows_none : (p : Page C width) → Grows f p [] p
+  grows_none p = record {
+    same = refl;
+    fits = subst (λ (k : ℕ). width * k ≤ length p.memory.now) (sym (add-zero (held_by p))) (held_fits p);
+    count = sym (add-zero (held_by p));
+    cells = paste_none p.memory.now (width * held_by p) [] ∙ ap (paste p.memory.now (width * held_by p) []) (sym (mul-zero width));
   }
 
-  pub grown_joins : (m : List ℕ) (k : ℕ) (xs m' : List ℕ) (k' : ℕ) (ys m'' : List ℕ) (k'' : ℕ) → Grown place form m k xs m' k' → Grown place form m' k' ys m'' k'' → Grown place form m k (xs ++ ys) m'' k''
-  grown_joins m k xs m' k' ys m'' k'' p q =
-      let b : place k + length (form xs) ≤ length m = begins m k xs p.fits in
-      let at : place k' ≡ place k + length (form xs) = ap place p.count ∙ spans k xs in
-      let n : k' + length ys ≡ k + length (xs ++ ys) = omega (arith, p.count, length-append xs ys) in
-      let fit : place (k' + length ys) ≤ length m = subst (λ (j : ℕ). place (k' + length ys) ≤ j) (grown_length m k xs m' k' p) q.fits in
+  pub grows_twice : (a b c : Page C width) (xs ys : List ℕ) → Grows f a xs b → Grows f b ys c → Grows f a (xs ++ ys) c
+  grows_twice a b c xs ys g h =
+      let n : length (xs ++ ys) ≡ length xs + length ys = length-append xs ys in
+      let at : width * held_by b ≡ width * held_by a + width * length xs = ap (λ k. width * k) g.count ∙ mul-add width (held_by a) (length xs) in
+      let count : held_by c ≡ held_by a + length (xs ++ ys) = omega (arith, g.count, h.count, n) in
       record {
-        fits = subst (λ (j : ℕ). place j ≤ length m) n fit;
-        count = q.count ∙ n;
+        same = h.same ∙ g.same;
+        fits = omega (arith, held_fits c, ap (λ k. width * k) count, grown_length a xs b g, grown_length b ys c h);
+        count = count;
         cells =
-            q.cells ∙ ap (λ j. overwritten m' j (form ys)) at ∙ ap (λ l. overwritten l (place k + length (form xs)) (form ys)) p.cells
-            ∙ overwritten_twice m (place k) (form xs) (form ys) (omega arith) ∙ ap (overwritten m (place k)) (sym (joins xs ys));
+            h.cells
+            ∙ ap₂ (λ m i. paste m i (flat_map f.cells ys) (width * length ys)) g.cells at
+            ∙ paste-paste a.memory.now (width * held_by a) (flat_map f.cells xs) (flat_map f.cells ys) (width * length xs) (width * length ys) (sym (length_written f xs)) (sym (length_written f ys)) (held_fits a)
+            ∙ ap₂ (paste a.memory.now (width * held_by a)) (sym (flat_map-append f.cells xs ys)) (sym (mul-add width (length xs) (length ys)) ∙ ap (λ k. width * k) (sym n));
       }
+
+  -- A page that grew by numbers shows them behind its own, and has so many fewer free.
+  pub grows_adds : (p q : Page C width) (ns : List ℕ) → Grows f p ns q → (list_of f q ≡ list_of f p ++ ns) × (free_of p ≡ free_of q + length ns)
+  grows_adds p q ns g =
+      let capacity : capacity_of q ≡ capacity_of p = ap (λ n. min (n / width) 65536) (grown_length p ns q g) in
+      (ap₂ (read f) g.count g.cells ∙ read_paste f p.memory.now (held_by p) ns (held_fits p), omega (arith, capacity, g.count))

@@ -1,9 +1,8 @@
 pub mod Books
 pub mod Decimals
+pub mod Forms
 pub mod Growth
-pub mod NumberLaws
-pub mod NumberPages
-pub mod Overwriting
-pub mod PrintedLaws
-pub mod PrintedPages
+pub mod Numbers
+pub mod PageLaws
+pub mod Pages
 pub mod ReadBack

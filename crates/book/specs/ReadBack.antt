@@ -1,70 +1,54 @@
--- Numbers printed are read back as they were.
-use Rattle.std.specs.Prelude.{◌≡◌, ℕ, zero, suc, ◌+◌, ◌*◌, ◌/◌, ◌<◌, ◌≤◌, List, [], ◌∷◌, ◌++◌, length, take, drop, slice_index, slice_index_or, refl}
-use Rattle.std.proofs.Common.{◌∙◌, ap, sym, zero-add, suc-add, arith, length-drop}
-use Rattle.std.proofs.lemmas.List.{append_assoc, get_or_append_left, drop-append-le, drop_at, drop-drop, take-append-drop, length-take-le}
-use Rattle.book.specs.Decimals.{six_bytes, printed, line_value, read_lines}
-use Rattle.book.specs.Overwriting.{overwritten}
+-- Numbers that were written are read back as they were.
+use Rattle.std.specs.Prelude.{◌≡◌, ℕ, zero, suc, ◌+◌, ◌*◌, ◌≤◌, List, [], ◌∷◌, ◌++◌, length, take, drop, refl}
+use Rattle.std.specs.List.{flat_map}
+use Rattle.std.proofs.Common.{◌∙◌, ap, sym, arith, length-append, length-drop}
+use Rattle.std.proofs.Math.Nat.{zero-add, suc-add, mul-zero, mul-suc}
+use Rattle.std.proofs.Math.Path.{ap₂}
+use Rattle.std.proofs.Math.Seq.{paste}
+use Rattle.std.proofs.lemmas.List.{append_assoc, take_at, drop_at, drop-drop, take-append-le, drop-append-le, take-append-drop, length-take-le}
+use Rattle.std.proofs.lemmas.List.Edits.{paste_all}
+use Rattle.book.specs.Forms.{Form, read}
 
-pub length_printed : (ns : List ℕ) → length (printed ns) ≡ 6 * length ns
-length_printed [] = refl
-length_printed (n ∷ ns) = let h = length_printed ns in omega arith
+module _ {C : Type 0} {width : ℕ} (f : Form C width) where
+  -- Numbers fill `width` cells each.
+  pub length_written : (ns : List ℕ) → length (flat_map f.cells ns) ≡ width * length ns
+  length_written [] = sym (mul-zero width)
+  length_written (n ∷ ns) = omega (arith, length-append (f.cells n) (flat_map f.cells ns), f.fills n, length_written ns, mul-suc width (length ns))
 
-pub printed_joins : (xs ys : List ℕ) → printed (xs ++ ys) ≡ printed xs ++ printed ys
-printed_joins [] ys = refl
-printed_joins (x ∷ xs) ys = ap (λ l. six_bytes x ++ l) (printed_joins xs ys) ∙ sym (append_assoc (six_bytes x) (printed xs) (printed ys))
+  pub length_read : (k : ℕ) (m : List C) → length (read f k m) ≡ k
+  length_read zero m = refl
+  length_read (suc k) m = ap suc (length_read k (drop width m))
 
--- Numbers fill six bytes each.
-pub printed_spans : (k : ℕ) (ns : List ℕ) → 6 * (k + length ns) ≡ 6 * k + length (printed ns)
-printed_spans k ns = let h = length_printed ns in omega arith
+  read_written : (ns : List ℕ) (m : List C) → read f (length ns) (flat_map f.cells ns ++ m) ≡ ns
+  read_written [] m = refl
+  read_written (n ∷ ns) m =
+      let rest = flat_map f.cells ns ++ m in
+      ap (read f (suc (length ns))) (append_assoc (f.cells n) (flat_map f.cells ns) m)
+      ∙ ap₂ (λ v l. v ∷ read f (length ns) l) (ap f.value (take_at (f.cells n) rest width (f.fills n)) ∙ f.shows n) (drop_at (f.cells n) rest width (f.fills n))
+      ∙ ap (λ l. n ∷ l) (read_written ns m)
 
-pub length_read : (k : ℕ) (bs : List ℕ) → length (read_lines k bs) ≡ k
-length_read zero bs = refl
-length_read (suc k) bs = ap suc (length_read k (drop 6 bs))
+  read_add : (j k : ℕ) (m : List C) → read f (j + k) m ≡ read f j m ++ read f k (drop (width * j) m)
+  read_add zero k m = ap (λ i. read f i m) (zero-add k) ∙ ap (λ i. read f k (drop i m)) (sym (mul-zero width))
+  read_add (suc j) k m =
+      let next : width + width * j ≡ width * suc j = omega (arith, mul-suc width j) in
+      ap (λ i. read f i m) (suc-add j k)
+      ∙ ap (λ l. f.value (take width m) ∷ l) (read_add j k (drop width m) ∙ ap (λ l. read f j (drop width m) ++ read f k l) (drop-drop (width * j) width m ∙ ap (λ i. drop i m) next))
 
-value_printed : (n : ℕ) (bs : List ℕ) → line_value (six_bytes n ++ bs) ≡ n
-value_printed n bs =
-    let a : n / 100 ≡ n / 10 / 10 = omega arith in
-    let b : n / 1000 ≡ n / 100 / 10 = omega arith in
-    let c : n / 10000 ≡ n / 1000 / 10 = omega arith in
-    omega arith
+  -- The first k numbers are those of the cells that they fill, whatever follows.
+  read_append : (k : ℕ) (front m : List C) → length front ≡ width * k → read f k (front ++ m) ≡ read f k front
+  read_append zero front m h = refl
+  read_append (suc k) front m h =
+      let l : width ≤ length front = omega (arith, h, mul-suc width k) in
+      let rest : length (drop width front) ≡ width * k = omega (arith, length-drop width front, h, mul-suc width k) in
+      ap₂ (λ v r. f.value v ∷ read f k r) (take-append-le width front m l) (drop-append-le width front m l)
+      ∙ ap (λ r. f.value (take width front) ∷ r) (read_append k (drop width front) m rest)
 
-read_printed : (ns bs : List ℕ) → read_lines (length ns) (printed ns ++ bs) ≡ ns
-read_printed [] bs = refl
-read_printed (n ∷ ns) bs = ap (λ v. v ∷ read_lines (length ns) (printed ns ++ bs)) (value_printed n (printed ns ++ bs)) ∙ ap (λ l. n ∷ l) (read_printed ns bs)
-
-read_split : (j k : ℕ) (bs : List ℕ) → read_lines (j + k) bs ≡ read_lines j bs ++ read_lines k (drop (6 * j) bs)
-read_split zero k bs = ap (λ i. read_lines i bs) (zero-add k)
-read_split (suc j) k bs =
-    let e : 6 + 6 * j ≡ 6 * suc j = omega arith in
-    ap (λ i. read_lines i bs) (suc-add j k)
-    ∙ ap (λ l. line_value bs ∷ l) (read_split j k (drop 6 bs) ∙ ap (λ l. read_lines j (drop 6 bs) ++ read_lines k l) (drop-drop (6 * j) 6 bs ∙ ap (λ i. drop i bs) e))
-
--- The value is that of the first bytes, whatever follows.
-value_front : (f x y : List ℕ) → 6 ≤ length f → line_value (f ++ x) ≡ line_value (f ++ y)
-value_front f x y h =
-    let e : (i : ℕ) → i < 6 → slice_index (f ++ x) i ≡ slice_index_or (f ++ y) i 0 = λ i l. get_or_append_left f x 0 i (omega arith) ∙ sym (get_or_append_left f y 0 i (omega arith)) in
-    let e0 = e 0 (omega arith) in
-    let e1 = e 1 (omega arith) in
-    let e2 = e 2 (omega arith) in
-    let e3 = e 3 (omega arith) in
-    let e4 = e 4 (omega arith) in
-    cc
-
-read_front : (k : ℕ) (f x y : List ℕ) → length f ≡ 6 * k → read_lines k (f ++ x) ≡ read_lines k (f ++ y)
-read_front zero f x y h = refl
-read_front (suc k) f x y h =
-    let l : 6 ≤ length f = omega arith in
-    let i = read_front k (drop 6 f) x y (length-drop 6 f ∙ omega arith) in
-    ap (λ v. v ∷ read_lines k (drop 6 (f ++ x))) (value_front f x y l)
-    ∙ ap (λ t. line_value (f ++ y) ∷ t) (ap (read_lines k) (drop-append-le 6 f x l) ∙ i ∙ ap (read_lines k) (sym (drop-append-le 6 f y l)))
-
--- Bytes that k numbers fill, with others printed behind them, show the k numbers and then the others.
-pub read_overwritten : (m : List ℕ) (k : ℕ) (ns : List ℕ) → 6 * k ≤ length m → read_lines (k + length ns) (overwritten m (6 * k) (printed ns)) ≡ read_lines k m ++ ns
-read_overwritten m k ns h =
-    let f = take (6 * k) m in
-    let r = printed ns ++ drop (6 * k + length (printed ns)) m in
-    let n : length f ≡ 6 * k = length-take-le (6 * k) m h in
-    read_split k (length ns) (f ++ r)
-    ∙ ap (λ l. read_lines k (f ++ r) ++ read_lines (length ns) l) (drop_at f r (6 * k) n)
-    ∙ ap (λ l. read_lines k (f ++ r) ++ l) (read_printed ns (drop (6 * k + length (printed ns)) m))
-    ∙ ap (λ l. l ++ ns) (read_front k f r (drop (6 * k) m) n ∙ ap (read_lines k) (take-append-drop (6 * k) m))
+  -- Cells that k numbers fill, with others written behind them, show the k numbers and then the others.
+  pub read_paste : (m : List C) (k : ℕ) (ns : List ℕ) → width * k ≤ length m → read f (k + length ns) (paste m (width * k) (flat_map f.cells ns) (width * length ns)) ≡ read f k m ++ ns
+  read_paste m k ns h =
+      let front = take (width * k) m in
+      let rest = drop (width * k + width * length ns) m in
+      let e : length front ≡ width * k = length-take-le (width * k) m h in
+      ap (read f (k + length ns)) (paste_all m (width * k) (flat_map f.cells ns) (width * length ns) (sym (length_written ns)))
+      ∙ read_add k (length ns) (front ++ (flat_map f.cells ns ++ rest))
+      ∙ ap₂ (λ xs ys. xs ++ ys) (read_append k front _ e ∙ sym (read_append k front (drop (width * k) m) e) ∙ ap (read f k) (take-append-drop (width * k) m)) (ap (read f (length ns)) (drop_at front _ (width * k) e) ∙ read_written ns rest)

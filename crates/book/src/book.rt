@@ -1,4 +1,4 @@
-ghost use Rattle.std.specs.Prelude.{◌≡◌, ℕ, List, [], ◌∷◌, length};
+ghost use Rattle.std.specs.Prelude.{◌≡◌, ◌↔◌, ℕ, List, [], ◌∷◌, length, IsTrue};
 ghost use Rattle.book.specs.Books.{Entered, Laws};
 
 // A book, by the list of 16-bit numbers that it holds and the count of those that it still takes.
@@ -19,11 +19,18 @@ pub trait Book {
     fn len(&self) -> u32
         ensures { result ≡ length (list self.now) };
 
+    // Whether the book holds no number.
+    fn is_empty(&self) -> bool
+        ensures { IsTrue result ↔ (list self.now ≡ []) }
+    {
+        self.len() == 0
+    }
+
     // How many numbers are free.
     fn free(&self) -> u32
         ensures { result ≡ free self.now };
 
-    // Adds the number at the end if one is free; else answers no, and nothing changes.
+    // Adds the number at the end if one is free; else answers no, and nothing changes. The project's books answer yes or no.
     fn put(&mut self, number: u16) -> bool
         ensures { Entered list free grows self.old (number ∷ []) result self.new };
 }

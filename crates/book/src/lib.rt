@@ -2,13 +2,16 @@
 #![tactic(auto)]
 
 mod book;
+mod cell;
 mod entry;
 mod number_page;
+mod page;
 mod printed_page;
 
 pub use book::Book;
 pub use entry::enter;
-pub use number_page::{NumberPage, PAGE_NUMBERS};
+pub use number_page::NumberPage;
+pub use page::{PAGE_NUMBERS, Page};
 pub use printed_page::PrintedPage;
 
 #[cfg(test)]

@@ -1,6 +1,7 @@
 use super::book::Book;
 use super::entry::enter;
-use super::number_page::{NumberPage, PAGE_NUMBERS};
+use super::number_page::NumberPage;
+use super::page::PAGE_NUMBERS;
 use super::printed_page::PrintedPage;
 use std::test::Fail;
 
@@ -24,8 +25,8 @@ fn number_page_fills_up(rt: HostRuntime) {
 fn number_page_leaves_the_rest(rt: HostRuntime) {
     let mut memory = [9; 4];
     let mut page = NumberPage::open(&mut memory);
-    let _ = page.put(5);
-    assert!(rt; page.numbers() == [5].as_slice());
+    page.put(5);
+    assert_eq!(rt; page.numbers(), [5].as_slice());
     assert_eq!(rt; memory, [5, 9, 9, 9]);
 }
 
@@ -44,9 +45,18 @@ fn printed_page_fills_up(rt: HostRuntime) {
 fn printed_page_leaves_the_rest(rt: HostRuntime) {
     let mut memory = [b'-'; 17];
     let mut page = PrintedPage::open(&mut memory);
-    let _ = page.put(12345);
-    assert!(rt; page.bytes() == b"12345\n".as_slice());
+    page.put(12345);
+    assert_eq!(rt; page.bytes(), b"12345\n".as_slice());
     assert_eq!(rt; memory, *b"12345\n-----------");
+}
+
+#[test]
+fn a_page_is_empty_until_a_put(rt: HostRuntime) {
+    let mut memory = [9; 2];
+    let mut page = NumberPage::open(&mut memory);
+    assert!(rt; page.is_empty());
+    page.put(0);
+    assert!(rt; !page.is_empty());
 }
 
 #[test]
@@ -60,7 +70,7 @@ fn no_whole_number_fits(rt: HostRuntime) {
 // Puts more numbers than a page takes, and counts them.
 fn overfill<B: Book>(book: &mut B) -> (u32, u32) {
     for _ in 0..PAGE_NUMBERS + 9 {
-        let _ = book.put(40000);
+        book.put(40000);
     }
     counts(book)
 }

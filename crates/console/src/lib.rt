@@ -13,6 +13,7 @@ pub const MOST: usize = 32768;
 pub fn fill<R: Read>(source: &mut R, buffer: &mut [u8]) -> io::Result<usize>
     ensures { IfOk result (λ n. n ≤ length buffer.new) }
 {
+    // A read may give less than there is room for, so what came is added up.
     let mut have = 0;
     while have < buffer.len() {
         let more = source.read(&mut buffer[have..])?;

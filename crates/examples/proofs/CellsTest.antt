@@ -1,7 +1,9 @@
 -- The actions that a certificate lists are exactly those that the cells hold.
-use Rattle.std.proofs.Common.{◌≡◌, ℕ, ◌<◌, ◌≤◌, Bool, true, false, not, ◌&&◌, ◌||◌, eqb, ◌⊎◌, List, [], ◌∷◌, length, sym, refl, ap, ◌∙◌, subst, inl, inr, arith}
+use Rattle.std.proofs.Common.{◌≡◌, ℕ, ◌<◌, ◌≤◌, Bool, true, false, not, ◌&&◌, ◌||◌, eqb, ◌⊎◌, List, [], ◌∷◌, length, sym, refl, ap, ◌∙◌, subst, inl, inr, arith, Option, Some, None}
+use Rattle.std.specs.List.{list_all}
+use Rattle.grammar.proofs.Completion.{code_is_lem}
+use Rattle.grammar.proofs.FormSteps.{terminal_is, is_terminal_lem, rule_is}
 use mathlib.Core.Bool.{false≢true}
-use mathlib.Core.Option.{Option, some, none}
 use Rattle.std.proofs.lemmas.Bool.{and_parts, eqb-true, eq-eqb, cases_lt}
 use Rattle.grammar.specs.Grammar.{Grammar, IsRule, left_side, right_side}
 use Rattle.grammar.specs.Derivation.{is_terminal, is_rule}
@@ -11,8 +13,8 @@ use Rattle.grammar.specs.Cells.{Holds, may_shift, may_accept, may_reduce}
 use Rattle.grammar.specs.declared.action.Action.{Action}
 use Rattle.grammar.specs.declared.action.Action.TheVariants.{Shift, Accept, Reduce}
 use Rattle.examples.specs.Tables.{same_pair, lookup, items_of, automaton}
-use Rattle.examples.proofs.Tests.{all, implies, all_at, Equality, same_both, both, pairs, member, mem_from, mem_range, conj, passed}
-use Rattle.examples.proofs.Codes.{terminal_from, terminal_to, rule_from, rule_numbers, rule_number, code_from}
+use Rattle.examples.proofs.Tests.{implies, all_at, Equality, same_both, both, pairs, member, mem_from, mem_range, conj, passed}
+use Rattle.examples.proofs.Codes.{rule_numbers, rule_number}
 use Rattle.examples.proofs.Lookup.{mem_lookup, beyond}
 use Rattle.examples.proofs.ItemsTest.{set_of}
 use Rattle.examples.proofs.StatesTest.{state_numbers}
@@ -76,25 +78,25 @@ module _ (G : Grammar) (c : Certificate) where
   accept_listed s = not (set_of (items_of c.tables s) 0 1) || has_action c.tables.actions ((s, 0), Accept)
 
   abbrev reduce_at : ℕ → ℕ → Option ℕ → Bool
-  reduce_at w r none = true
-  reduce_at w r (some s) = has_action c.tables.actions ((s, w), Reduce r)
+  reduce_at w r None = true
+  reduce_at w r (Some s) = has_action c.tables.actions ((s, w), Reduce r)
 
   abbrev reduce_listed : Entry → ℕ → Bool
   reduce_listed e r = not (eqb e.0.1 (left_side G r)) || reduce_at e.1 r (walk (automaton c.tables) e.0.0 (right_side G r))
 
   unfoldable pub cells_tests : List Bool
   cells_tests =
-      all (λ p. held_by p.0.0 p.0.1 p.1) c.tables.actions
-      ∷ all shift_listed c.tables.moves
-      ∷ all accept_listed (state_numbers c.tables)
-      ∷ all (λ e. all (reduce_listed e) (rule_numbers G)) c.follows
+      list_all (λ p. held_by p.0.0 p.0.1 p.1) c.tables.actions
+      ∷ list_all shift_listed c.tables.moves
+      ∷ list_all accept_listed (state_numbers c.tables)
+      ∷ list_all (λ e. list_all (reduce_listed e) (rule_numbers G)) c.follows
       ∷ []
 
   module _ (looks : conj (lookahead_tests G c) ≡ true) (ok : conj cells_tests ≡ true) where
     held : (s w : ℕ) (a : Action) → held_by s w a ≡ true → Holds G (automaton c.tables) s w a
-    held s w (Shift u) h = let p = and_parts (is_terminal G w) _ h in may_shift (terminal_from G w p.0) (code_from _ u p.1)
+    held s w (Shift u) h = let p = and_parts (is_terminal G w) _ h in may_shift (terminal_is G w p.0) (code_is_lem _ u p.1)
     held s w Accept h = let p = and_parts (eqb w 0) _ h in subst (λ v. Holds G (automaton c.tables) s v Accept) (sym (eqb-true w 0 p.0)) (may_accept p.1)
-    held s w (Reduce r) h = let p = and_parts (is_rule G r) _ h in may_reduce (rule_from G r p.0) (lookahead_from G c looks s r w p.1)
+    held s w (Reduce r) h = let p = and_parts (is_rule G r) _ h in may_reduce (rule_is G r p.0) (lookahead_from G c looks s r w p.1)
 
     pub holds_from : (s w : ℕ) (a : Action) → has_action c.tables.actions ((s, w), a) ≡ true → Holds G (automaton c.tables) s w a
     unfolding cells_tests
@@ -113,11 +115,11 @@ module _ (G : Grammar) (c : Certificate) where
     reduces s w r i l =
         let e : Entry = ((l.back, left_side G r), w) in
         let m = mem_from entries c.follows e (follows_to G c looks (l.back, left_side G r) w l.follow) in
-        let k = implies (eqb (left_side G r) (left_side G r)) _ (all_at (reduce_listed e) (rule_numbers G) (all_at (λ e. all (reduce_listed e) (rule_numbers G)) c.follows (passed cells_tests ok 3) m) (rule_number G i)) (eq-eqb (left_side G r) (left_side G r) refl) in
+        let k = implies (eqb (left_side G r) (left_side G r)) _ (all_at (reduce_listed e) (rule_numbers G) (all_at (λ e. list_all (reduce_listed e) (rule_numbers G)) c.follows (passed cells_tests ok 3) m) (rule_number G i)) (eq-eqb (left_side G r) (left_side G r) refl) in
         subst (λ o. reduce_at w r o ≡ true) (leads_to (automaton c.tables) l.leads) k
 
     pub holds_to : (s w : ℕ) (a : Action) → Holds G (automaton c.tables) s w a → has_action c.tables.actions ((s, w), a) ≡ true
     unfolding cells_tests
-    holds_to s w a (may_shift {t = u} i g) = implies (is_terminal G w) _ (all_at shift_listed c.tables.moves (passed cells_tests ok 1) (mem_lookup c.tables.moves s w u g)) (terminal_to G w i)
+    holds_to s w a (may_shift {t = u} i g) = implies (is_terminal G w) _ (all_at shift_listed c.tables.moves (passed cells_tests ok 1) (mem_lookup c.tables.moves s w u g)) (is_terminal_lem G w i)
     holds_to s w a (may_accept h) = accepts s h
     holds_to s w a (may_reduce {r = r} i l) = reduces s w r i l

@@ -1,6 +1,5 @@
 -- The certificates of the three sheets, and that they pass.
-use Rattle.std.proofs.Common.{◌≡◌, true, [], ◌∷◌, refl}
-use mathlib.Core.Option.{some, none}
+use Rattle.std.proofs.Common.{◌≡◌, true, [], ◌∷◌, refl, Some, None}
 use Rattle.grammar.specs.declared.action.Action.TheVariants.{Shift, Accept, Reduce}
 use Rattle.examples.specs.Tables.{Tables}
 use Rattle.examples.specs.Sheets.{sheet_a, sheet_b, sheet_c, tables_a, tables_b}
@@ -17,7 +16,7 @@ certificate_a =
       directs = ((0, 4), 0) ∷ ((0, 5), 3) ∷ [];
       reads = ((0, 4), 0) ∷ ((0, 5), 3) ∷ [];
       follows = ((0, 4), 0) ∷ ((0, 5), 0) ∷ ((0, 5), 3) ∷ ((3, 6), 0) ∷ ((5, 6), 0) ∷ [];
-      conflict = none;
+      conflict = None;
     }
 
 unfoldable pub certificate_b : Certificate
@@ -30,7 +29,7 @@ certificate_b =
       directs = ((0, 5), 0) ∷ ((0, 6), 1) ∷ ((1, 6), 3) ∷ [];
       reads = ((0, 5), 0) ∷ ((0, 6), 1) ∷ ((1, 6), 3) ∷ [];
       follows = ((0, 5), 0) ∷ ((0, 6), 1) ∷ ((1, 6), 3) ∷ [];
-      conflict = none;
+      conflict = None;
     }
 
 unfoldable pub tables_c : Tables
@@ -72,7 +71,7 @@ certificate_c =
       directs = ((0, 5), 0) ∷ ((0, 6), 1) ∷ ((0, 7), 3) ∷ ((1, 6), 3) ∷ ((1, 7), 1) ∷ [];
       reads = ((0, 5), 0) ∷ ((0, 6), 1) ∷ ((0, 7), 3) ∷ ((1, 6), 3) ∷ ((1, 7), 1) ∷ [];
       follows = ((0, 5), 0) ∷ ((0, 6), 1) ∷ ((0, 7), 3) ∷ ((1, 6), 3) ∷ ((1, 7), 1) ∷ [];
-      conflict = some (record { state = 2; word = 1; first = Reduce 5; second = Reduce 6 });
+      conflict = Some (record { state = 2; word = 1; first = Reduce 5; second = Reduce 6 });
     }
 
 pub passed_a : passes sheet_a certificate_a ≡ true

@@ -1,13 +1,15 @@
 -- Read sets and follow sets in lists that pass the test are exact.
 use Rattle.std.proofs.Common.{◌≡◌, ℕ, Bool, true, ◌&&◌, eqb, List, [], ◌∷◌, ◌++◌, refl, subst}
+use Rattle.std.specs.List.{list_any, list_all}
+use Rattle.grammar.proofs.Completion.{code_is_lem, is_code}
 use mathlib.Core.List.{Memᴰ}
 use Rattle.std.proofs.lemmas.Bool.{and_parts, and_from, eqb-true, eq-eqb}
 use Rattle.grammar.specs.Grammar.{Grammar, left_side, right_side}
 use Rattle.grammar.specs.Items.{code_is}
 use Rattle.grammar.specs.Lookahead.{Transition, Reads, Includes, Read, Follow}
-use Rattle.examples.specs.Tables.{Tables, any, lookup, automaton}
-use Rattle.examples.proofs.Tests.{all, any_at, any_from, member, conj, passed, from_parts}
-use Rattle.examples.proofs.Codes.{rule_numbers, is_rule_lem, rule_number, code_from, code_to}
+use Rattle.examples.specs.Tables.{Tables, lookup, automaton}
+use Rattle.examples.proofs.Tests.{any_at, any_from, member, conj, passed, from_parts}
+use Rattle.examples.proofs.Codes.{rule_numbers, is_rule_lem, rule_number}
 use Rattle.examples.proofs.Lookup.{mem_lookup}
 use Rattle.examples.proofs.NullableTest.{nullable_tests, nullable_from, nullable_to, all_nullable_from, all_nullable_to}
 use Rattle.examples.proofs.Walk.{walk, leads_to, leads_from, any_cut, cut_at, cut_from}
@@ -20,13 +22,13 @@ module _ (G : Grammar) (t : Tables) (nullable : List ℕ) where
 
   -- The right side cut at the transition's nonterminal: what is behind is nullable, and what is before leads to the transition.
   abbrev cut_tests : ℕ × ℕ → ℕ × ℕ → List ℕ → ℕ → List ℕ → List Bool
-  cut_tests x y β X γ = eqb X x.1 ∷ all (member eqb nullable) γ ∷ code_is (walk (automaton t) y.0 β) x.0 ∷ []
+  cut_tests x y β X γ = eqb X x.1 ∷ list_all (member eqb nullable) γ ∷ code_is (walk (automaton t) y.0 β) x.0 ∷ []
 
   abbrev rule_includes : ℕ × ℕ → ℕ × ℕ → ℕ → Bool
   rule_includes x y r = eqb (left_side G r) y.1 && any_cut (λ β X γ. conj (cut_tests x y β X γ)) (right_side G r)
 
   abbrev includes_tests : ℕ × ℕ → ℕ × ℕ → List Bool
-  includes_tests x y = is_transition G t x ∷ is_transition G t y ∷ any (rule_includes x y) (rule_numbers G) ∷ []
+  includes_tests x y = is_transition G t x ∷ is_transition G t y ∷ list_any (rule_includes x y) (rule_numbers G) ∷ []
 
   abbrev reads_to : ℕ × ℕ → ℕ × ℕ → Bool
   reads_to x y = conj (reads_tests x y)
@@ -44,10 +46,10 @@ module _ (G : Grammar) (t : Tables) (nullable : List ℕ) where
     reads_from : (x y : ℕ × ℕ) → reads_to x y ≡ true → Reads G (automaton t) x y
     reads_from x y h =
         let p = passed (reads_tests x y) h in
-        record { from = transition_from G t x (p 0); to = transition_from G t y (p 1); move = code_from _ y.0 (p 2); nullable = nullable_from G nullable exact y.1 (p 3) }
+        record { from = transition_from G t x (p 0); to = transition_from G t y (p 1); move = code_is_lem _ y.0 (p 2); nullable = nullable_from G nullable exact y.1 (p 3) }
 
     reads_to_lem : (x y : ℕ × ℕ) → Reads G (automaton t) x y → reads_to x y ≡ true
-    reads_to_lem x y r = from_parts (reads_tests x y) (transition_to G t x r.from, (transition_to G t y r.to, (code_to _ y.0 r.move, (nullable_to G nullable exact y.1 r.nullable, tt))))
+    reads_to_lem x y r = from_parts (reads_tests x y) (transition_to G t x r.from, (transition_to G t y r.to, (is_code _ y.0 r.move, (nullable_to G nullable exact y.1 r.nullable, tt))))
 
     includes_from : (x y : ℕ × ℕ) → includes_to x y ≡ true → Includes G (automaton t) x y
     includes_from x y h =
@@ -66,12 +68,12 @@ module _ (G : Grammar) (t : Tables) (nullable : List ℕ) where
           is_left = eqb-true (left_side G z.0) y.1 q.0;
           is_right = subst (λ X. right_side G z.0 ≡ c.before ++ X ∷ c.after) (eqb-true c.code x.1 (k 0)) c.is;
           nullables = all_nullable_from G nullable exact c.after (k 1);
-          leads = leads_from (automaton t) c.before y.0 x.0 (code_from _ x.0 (k 2));
+          leads = leads_from (automaton t) c.before y.0 x.0 (code_is_lem _ x.0 (k 2));
         }
 
     includes_to_lem : (x y : ℕ × ℕ) → Includes G (automaton t) x y → includes_to x y ≡ true
     includes_to_lem x y i =
-        let k : conj (cut_tests x y i.before x.1 i.after) ≡ true = from_parts (cut_tests x y i.before x.1 i.after) (eq-eqb x.1 x.1 refl, (all_nullable_to G nullable exact i.after i.nullables, (code_to _ x.0 (leads_to (automaton t) i.leads), tt))) in
+        let k : conj (cut_tests x y i.before x.1 i.after) ≡ true = from_parts (cut_tests x y i.before x.1 i.after) (eq-eqb x.1 x.1 refl, (all_nullable_to G nullable exact i.after i.nullables, (is_code _ x.0 (leads_to (automaton t) i.leads), tt))) in
         let c : any_cut (λ β X γ. conj (cut_tests x y β X γ)) (right_side G i.rule) ≡ true = rw i.is_right (cut_from i.before x.1 i.after (λ β X γ. conj (cut_tests x y β X γ)) k) in
         let r : rule_includes x y i.rule ≡ true = and_from (eqb (left_side G i.rule) y.1) _ (eq-eqb (left_side G i.rule) y.1 i.is_left) c in
         from_parts (includes_tests x y) (transition_to G t x i.from, (transition_to G t y i.to, (any_from (rule_includes x y) (rule_numbers G) (rule_number G i.is_rule) r, tt)))

@@ -1,10 +1,11 @@
 -- Words listed by place, each with its reason before it: exactly the seeds of all places that are reached.
 use Rattle.std.proofs.Common.{◌≡◌, ℕ, Bool, true, not, ◌&&◌, ◌||◌, eqb, ◌⊎◌, List, [], ◌∷◌, subst, inl, inr}
+use Rattle.std.specs.List.{list_any, list_all}
 use mathlib.Core.List.{Memᴰ}
 use Rattle.std.proofs.lemmas.Bool.{and_parts, or_cases, eqb-true}
 use Rattle.grammar.specs.Lookahead.{Star, stop, go}
-use Rattle.examples.specs.Tables.{any, same_pair}
-use Rattle.examples.proofs.Tests.{all, implies, all_at, any_at, Equality, same_both, numbers, both, pairs, member, mem_from, conj, passed}
+use Rattle.examples.specs.Tables.{same_pair}
+use Rattle.examples.proofs.Tests.{implies, all_at, any_at, Equality, same_both, numbers, both, pairs, member, mem_from, conj, passed}
 use Rattle.examples.proofs.Ordered.{ordered, Each, in_order}
 
 -- A word at a place.
@@ -19,7 +20,7 @@ entries = both pairs numbers
 
 -- A word is a seed, or stands before at a place to which there is a step.
 abbrev arrives : (ℕ × ℕ → ℕ × ℕ → Bool) → List Entry → List Entry → Entry → Bool
-arrives step seeds before e = has seeds e || any (λ f. eqb f.1 e.1 && step e.0 f.0) before
+arrives step seeds before e = has seeds e || list_any (λ f. eqb f.1 e.1 && step e.0 f.0) before
 
 abbrev goes_back : (ℕ × ℕ → ℕ × ℕ → Bool) → List Entry → Entry → Entry → Bool
 goes_back step l f m = not (step m.0 f.0) || has l (m.0, f.1)
@@ -28,8 +29,8 @@ goes_back step l f m = not (step m.0 f.0) || has l (m.0, f.1)
 unfoldable pub gather_tests : (ℕ × ℕ → ℕ × ℕ → Bool) → List Entry → List Entry → List Entry → List Bool
 gather_tests step moves seeds l =
     ordered (arrives step seeds) [] l
-    ∷ all (has l) seeds
-    ∷ all (λ f. all (goes_back step l f) moves) l
+    ∷ list_all (has l) seeds
+    ∷ list_all (λ f. list_all (goes_back step l f) moves) l
     ∷ []
 
 module _ (R : ℕ × ℕ → ℕ × ℕ → Type 0) (step : ℕ × ℕ → ℕ × ℕ → Bool) (from : (x y : ℕ × ℕ) → step x y ≡ true → R x y) (seeds : List Entry) where
@@ -42,7 +43,7 @@ module _ (R : ℕ × ℕ → ℕ × ℕ → Type 0) (step : ℕ × ℕ → ℕ �
   reason : (before : List Entry) (e : Entry) → Each Gathered before → arrives step seeds before e ≡ true → Gathered e
   reason before e k h = pick (or_cases (has seeds e) _ h)
     where
-      pick : (has seeds e ≡ true) ⊎ (any (λ f. eqb f.1 e.1 && step e.0 f.0) before ≡ true) → Gathered e
+      pick : (has seeds e ≡ true) ⊎ (list_any (λ f. eqb f.1 e.1 && step e.0 f.0) before ≡ true) → Gathered e
       pick (inl s) = record { last = e.0; steps = stop; seed = s }
       pick (inr s) =
           let z = any_at (λ f. eqb f.1 e.1 && step e.0 f.0) before s in
@@ -61,4 +62,4 @@ module _ (R : ℕ × ℕ → ℕ × ℕ → Type 0) (step : ℕ × ℕ → ℕ �
     gathered_to {x} w (go {b = z} r s) h =
         let m = starts x z r in
         implies (step x z) (has l (x, w))
-        (all_at (goes_back step l (z, w)) moves (all_at (λ f. all (goes_back step l f) moves) l (passed (gather_tests step moves seeds l) ok 2) (mem_from entries l (z, w) (gathered_to w s h))) m.1) (to x z r)
+        (all_at (goes_back step l (z, w)) moves (all_at (λ f. list_all (goes_back step l f) moves) l (passed (gather_tests step moves seeds l) ok 2) (mem_from entries l (z, w) (gathered_to w s h))) m.1) (to x z r)

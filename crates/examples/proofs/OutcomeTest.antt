@@ -1,7 +1,7 @@
 -- A certificate that passes the test says what building its grammar comes to.
-use Rattle.std.proofs.Common.{◌≡◌, ℕ, Bool, true, not, ◌&&◌, ◌||◌, ltb, leb, ◌↔◌, List, [], ◌∷◌, length, sym, ap, ◌∙◌}
+use Rattle.std.proofs.Common.{◌≡◌, ℕ, Bool, true, not, ◌&&◌, ◌||◌, ltb, leb, ◌↔◌, List, [], ◌∷◌, length, sym, ap, ◌∙◌, Option, Some, None}
+use Rattle.std.specs.List.{list_all}
 use mathlib.Core.List.{Memᴰ}
-use mathlib.Core.Option.{Option, some, none}
 use Rattle.std.proofs.lemmas.Bool.{and_from, leb-true, ltb-true, lt-ltb}
 use Rattle.grammar.specs.Grammar.{Grammar, start, no_rule, left_side, right_side}
 use Rattle.grammar.specs.Cells.{rank, Holds, FirstConflict, Exact}
@@ -9,7 +9,7 @@ use Rattle.grammar.specs.Lookahead.{Lookahead}
 use Rattle.grammar.specs.Outcome.{Within, Sound, Outcome, conflicting, done}
 use Rattle.grammar.specs.declared.action.Action.{Action}
 use Rattle.examples.specs.Tables.{same_pair, automaton, cells}
-use Rattle.examples.proofs.Tests.{all, implies, all_at, pairs, mem_from, mem_to, conj, passed}
+use Rattle.examples.proofs.Tests.{implies, all_at, pairs, mem_from, mem_to, conj, passed}
 use Rattle.examples.proofs.Lookup.{mem_lookup, lookup_of}
 use Rattle.examples.proofs.LimitsTest.{limits_tests, in_range_ok, within, in_range_lem}
 use Rattle.examples.proofs.UsefulTest.{useful_tests, none_useless}
@@ -28,7 +28,7 @@ agree p q = not (same_pair p.0 q.0) || same_action p.1 q.1
 
 -- No cell has two actions.
 abbrev all_agree : List Placed → Bool
-all_agree l = all (λ p. all (agree p) l) l
+all_agree l = list_all (λ p. list_all (agree p) l) l
 
 -- An action of the conflict's cell that ranks before the second is the first.
 abbrev least : Conflict → Placed → Bool
@@ -42,14 +42,14 @@ conflict_tests l k =
     has_action l ((k.state, k.word), k.first)
     ∷ has_action l ((k.state, k.word), k.second)
     ∷ ltb (rank k.first) (rank k.second)
-    ∷ all (least k) l
-    ∷ all (λ p. all (agree_before k p) l) l
+    ∷ list_all (least k) l
+    ∷ list_all (λ p. list_all (agree_before k p) l) l
     ∷ []
 
 -- No conflict, or the one named is the first.
 unfoldable pub verdict_ok : List Placed → Option Conflict → Bool
-verdict_ok l none = all_agree l
-verdict_ok l (some k) = conj (conflict_tests l k)
+verdict_ok l None = all_agree l
+verdict_ok l (Some k) = conj (conflict_tests l k)
 
 -- The groups of tests, in the order in which causes of refusal are tried.
 unfoldable pub groups : Grammar → Certificate → List Bool
@@ -81,12 +81,12 @@ module _ (G : Grammar) (c : Certificate) (ok : conj (groups G c) ≡ true) where
 
   agreed : all_agree c.tables.actions ≡ true → (s w : ℕ) (a b : Action) → Holds G (automaton c.tables) s w a → Memᴰ ((s, w), b) c.tables.actions → b ≡ a
   agreed k s w a b h m =
-      sym (actions.sound a b (implies (same_pair (s, w) (s, w)) (same_action a b) (all_at (agree ((s, w), a)) c.tables.actions (all_at (λ p. all (agree p) c.tables.actions) c.tables.actions k (mem_of s w a h)) m) (pairs.reflexive (s, w))))
+      sym (actions.sound a b (implies (same_pair (s, w) (s, w)) (same_action a b) (all_at (agree ((s, w), a)) c.tables.actions (all_at (λ p. list_all (agree p) c.tables.actions) c.tables.actions k (mem_of s w a h)) m) (pairs.reflexive (s, w))))
 
   exact : all_agree c.tables.actions ≡ true → Exact G (automaton c.tables) (cells c.tables)
   exact k s w a = (
     λ e. holds s w a (mem_to placed c.tables.actions (mem_lookup c.tables.actions s w a e)),
-    λ h. let z = lookup_of c.tables.actions s w a (mem_of s w a h) in z.1 ∙ ap some (agreed k s w a z.0 h (mem_lookup c.tables.actions s w z.0 z.1)),
+    λ h. let z = lookup_of c.tables.actions s w a (mem_of s w a h) in z.1 ∙ ap Some (agreed k s w a z.0 h (mem_lookup c.tables.actions s w z.0 z.1)),
   )
 
   first_conflict : (k : Conflict) → conj (conflict_tests c.tables.actions k) ≡ true → FirstConflict G (automaton c.tables) k.state k.word k.first k.second
@@ -101,7 +101,7 @@ module _ (G : Grammar) (c : Certificate) (ok : conj (groups G c) ≡ true) where
             (implies (same_pair (k.state, k.word) (k.state, k.word) && ltb (rank a) (rank k.second)) (same_action a k.first) (all_at (least k) c.tables.actions (p 3) (mem_of k.state k.word a g)) (and_from _ (ltb (rank a) (rank k.second)) (pairs.reflexive (k.state, k.word)) (lt-ltb (rank a) (rank k.second) l)));
         earlier = λ q v a b e g f.
             actions.sound a b
-            (implies (same_pair (q, v) (q, v)) (same_action a b) (implies (earlier (q, v) (k.state, k.word)) (agree ((q, v), a) ((q, v), b)) (all_at (agree_before k ((q, v), a)) c.tables.actions (all_at (λ p. all (agree_before k p) c.tables.actions) c.tables.actions (p 4) (mem_of q v a g)) (mem_of q v b f)) (earlier_to (q, v) (k.state, k.word) e)) (pairs.reflexive (q, v)));
+            (implies (same_pair (q, v) (q, v)) (same_action a b) (implies (earlier (q, v) (k.state, k.word)) (agree ((q, v), a) ((q, v), b)) (all_at (agree_before k ((q, v), a)) c.tables.actions (all_at (λ p. list_all (agree_before k p) c.tables.actions) c.tables.actions (p 4) (mem_of q v a g)) (mem_of q v b f)) (earlier_to (q, v) (k.state, k.word) e)) (pairs.reflexive (q, v)));
       }
 
   is_within : Within G
@@ -114,8 +114,8 @@ module _ (G : Grammar) (c : Certificate) (ok : conj (groups G c) ≡ true) where
 
   stands : (k : Option Conflict) → verdict_ok c.tables.actions k ≡ true → Outcome G (outcome_by c.tables k)
   unfolding groups verdict_ok
-  stands none h = let p = passed (groups G c) ok in done is_within is_sound (leb-true (length c.tables.states) 96 (p 3)) (numbered G c.tables (p 4)) (exact h)
-  stands (some k) h = let p = passed (groups G c) ok in conflicting is_within is_sound (leb-true (length c.tables.states) 96 (p 3)) (numbered G c.tables (p 4)) (first_conflict k h)
+  stands None h = let p = passed (groups G c) ok in done is_within is_sound (leb-true (length c.tables.states) 96 (p 3)) (numbered G c.tables (p 4)) (exact h)
+  stands (Some k) h = let p = passed (groups G c) ok in conflicting is_within is_sound (leb-true (length c.tables.states) 96 (p 3)) (numbered G c.tables (p 4)) (first_conflict k h)
 
   by_certificate : Outcome G (outcome_of c)
   unfolding groups

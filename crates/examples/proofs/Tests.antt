@@ -1,15 +1,11 @@
 -- Tests over lists, and what a passed test says.
 use Rattle.std.proofs.Common.{◌≡◌, ℕ, zero, suc, ◌+◌, ◌<◌, ◌≤◌, Bool, true, false, not, ◌&&◌, ◌||◌, eqb, ◌⊎◌, List, [], ◌∷◌, ◌++◌, get_or, sym, refl, ap, ◌∙◌, inl, inr, arith}
+use Rattle.std.specs.List.{list_any, list_all}
 use mathlib.Core.Bool.{false≢true}
 use mathlib.Core.List.Memᴰ
 use mathlib.Core.List.{Memᴰ}
 use Rattle.std.proofs.lemmas.Bool.{and_parts, and_from, or_cases, or_left, or_right, eqb-true, eq-eqb, cases_eq}
-use Rattle.examples.specs.Tables.{any, same_pair}
-
--- Every element passes the test.
-abbrev pub all : {B : Type 0} → (B → Bool) → List B → Bool
-all f [] = true
-all f (x ∷ l) = f x && all f l
+use Rattle.examples.specs.Tables.{same_pair}
 
 -- n numbers from a.
 abbrev pub range : ℕ → ℕ → List ℕ
@@ -21,33 +17,33 @@ pub implies : (a b : Bool) → (not a || b) ≡ true → a ≡ true → b ≡ tr
 implies true b e h = e
 implies false b e h = absurd (false≢true h)
 
-pub all_at : {B : Type 0} (f : B → Bool) (l : List B) {x : B} → all f l ≡ true → Memᴰ x l → f x ≡ true
+pub all_at : {B : Type 0} (f : B → Bool) (l : List B) {x : B} → list_all f l ≡ true → Memᴰ x l → f x ≡ true
 all_at f [] h m = elim m [ ]
-all_at f (y ∷ l) {x} h m = pick (all_at f l (and_parts (f y) (all f l) h).1) (Memᴰ.cases_cons m)
+all_at f (y ∷ l) {x} h m = pick (all_at f l (and_parts (f y) (list_all f l) h).1) (Memᴰ.cases_cons m)
   where
     pick : (Memᴰ x l → f x ≡ true) → (x ≡ y) ⊎ Memᴰ x l → f x ≡ true
-    pick k (inl e) = ap f e ∙ (and_parts (f y) (all f l) h).0
+    pick k (inl e) = ap f e ∙ (and_parts (f y) (list_all f l) h).0
     pick k (inr n) = k n
 
-pub any_at : {B : Type 0} (f : B → Bool) (l : List B) → any f l ≡ true → (x : B) × Memᴰ x l × (f x ≡ true)
+pub any_at : {B : Type 0} (f : B → Bool) (l : List B) → list_any f l ≡ true → (x : B) × Memᴰ x l × (f x ≡ true)
 any_at f [] h = absurd (false≢true h)
-any_at {B} f (y ∷ l) h = pick (any_at f l) (or_cases (f y) (any f l) h)
+any_at {B} f (y ∷ l) h = pick (any_at f l) (or_cases (f y) (list_any f l) h)
   where
-    pick : (any f l ≡ true → (x : B) × Memᴰ x l × (f x ≡ true)) → (f y ≡ true) ⊎ (any f l ≡ true) → (x : B) × Memᴰ x (y ∷ l) × (f x ≡ true)
+    pick : (list_any f l ≡ true → (x : B) × Memᴰ x l × (f x ≡ true)) → (f y ≡ true) ⊎ (list_any f l ≡ true) → (x : B) × Memᴰ x (y ∷ l) × (f x ≡ true)
     pick k (inl e) = (y, Memᴰ.head refl, e)
     pick k (inr e) = let z = k e in (z.0, Memᴰ.tail z.1, z.2)
 
-pub any_from : {B : Type 0} (f : B → Bool) (l : List B) {x : B} → Memᴰ x l → f x ≡ true → any f l ≡ true
+pub any_from : {B : Type 0} (f : B → Bool) (l : List B) {x : B} → Memᴰ x l → f x ≡ true → list_any f l ≡ true
 any_from f [] m h = elim m [ ]
 any_from f (y ∷ l) {x} m h = pick (λ n. any_from f l n h) (Memᴰ.cases_cons m)
   where
-    pick : (Memᴰ x l → any f l ≡ true) → (x ≡ y) ⊎ Memᴰ x l → (f y || any f l) ≡ true
-    pick k (inl e) = or_left (f y) (any f l) (ap f (sym e) ∙ h)
-    pick k (inr n) = or_right (f y) (any f l) (k n)
+    pick : (Memᴰ x l → list_any f l ≡ true) → (x ≡ y) ⊎ Memᴰ x l → (f y || list_any f l) ≡ true
+    pick k (inl e) = or_left (f y) (list_any f l) (ap f (sym e) ∙ h)
+    pick k (inr n) = or_right (f y) (list_any f l) (k n)
 
-pub all_append : {B : Type 0} (f : B → Bool) (l m : List B) → all f l ≡ true → all f m ≡ true → all f (l ++ m) ≡ true
+pub all_append : {B : Type 0} (f : B → Bool) (l m : List B) → list_all f l ≡ true → list_all f m ≡ true → list_all f (l ++ m) ≡ true
 all_append f [] m h k = k
-all_append f (x ∷ l) m h k = let p = and_parts (f x) (all f l) h in and_from (f x) (all f (l ++ m)) p.0 (all_append f l m p.1 k)
+all_append f (x ∷ l) m h k = let p = and_parts (f x) (list_all f l) h in and_from (f x) (list_all f (l ++ m)) p.0 (all_append f l m p.1 k)
 
 pub mem_range : (a n q : ℕ) → a ≤ q → q < a + n → Memᴰ q (range a n)
 mem_range a zero q h k = absurd (omega arith)
@@ -88,7 +84,7 @@ pairs = both numbers numbers
 
 -- A value is in a list.
 abbrev pub member : {B : Type 0} → (B → B → Bool) → List B → B → Bool
-member same l x = any (same x) l
+member same l x = list_any (same x) l
 
 pub mem_from : {B : Type 0} {same : B → B → Bool} → Equality same → (l : List B) (x : B) → member same l x ≡ true → Memᴰ x l
 mem_from {same} E l x h = let z = any_at (same x) l h in Memᴰ.cast (E.sound x z.0 z.2) z.1

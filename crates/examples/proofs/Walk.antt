@@ -1,32 +1,28 @@
 -- Walks along codes, and ways to cut a list at one of its codes.
-use Rattle.std.proofs.Common.{◌≡◌, ℕ, Bool, true, false, ◌||◌, ◌⊎◌, List, [], ◌∷◌, ◌++◌, refl, ap, ◌∙◌, subst, inl, inr}
+use Rattle.std.proofs.Common.{◌≡◌, ℕ, Bool, true, false, ◌||◌, ◌⊎◌, List, [], ◌∷◌, ◌++◌, refl, ap, ◌∙◌, subst, inl, inr, Option, Some, None, option_and_then}
+use Rattle.std.proofs.lemmas.Option.{same_Some}
 use mathlib.Core.Bool.{false≢true}
-use mathlib.Core.Option.{Option, some, none, none-ne-some, some-injective}
 use Rattle.std.proofs.lemmas.Bool.{or_cases, or_left, or_right}
 use Rattle.grammar.specs.States.{Automaton}
 use Rattle.grammar.specs.Lookahead.{Leads, here, onward}
 
-abbrev and_then : (ℕ → Option ℕ) → Option ℕ → Option ℕ
-and_then f none = none
-and_then f (some s) = f s
-
 -- The state to which codes lead.
 abbrev pub walk : Automaton → ℕ → List ℕ → Option ℕ
-walk A s [] = some s
-walk A s (X ∷ Xs) = and_then (λ u. walk A u Xs) (A.goto s X)
+walk A s [] = Some s
+walk A s (X ∷ Xs) = option_and_then (λ u. walk A u Xs) (A.goto s X)
 
 module _ (A : Automaton) where
-  pub leads_to : {s u : ℕ} {Xs : List ℕ} → Leads A s Xs u → walk A s Xs ≡ some u
+  pub leads_to : {s u : ℕ} {Xs : List ℕ} → Leads A s Xs u → walk A s Xs ≡ Some u
   leads_to here = refl
-  leads_to (onward {Xs = Xs} g l) = ap (and_then (λ v. walk A v Xs)) g ∙ leads_to l
+  leads_to (onward {Xs = Xs} g l) = ap (option_and_then (λ v. walk A v Xs)) g ∙ leads_to l
 
-  pub leads_from : (Xs : List ℕ) (s u : ℕ) → walk A s Xs ≡ some u → Leads A s Xs u
-  leads_from [] s u h = subst (Leads A s []) (some-injective _ _ h) here
+  pub leads_from : (Xs : List ℕ) (s u : ℕ) → walk A s Xs ≡ Some u → Leads A s Xs u
+  leads_from [] s u h = subst (Leads A s []) (same_Some _ _ h) here
   leads_from (X ∷ Xs) s u h = pick (A.goto s X) refl h (leads_from Xs)
     where
-      pick : (o : Option ℕ) → A.goto s X ≡ o → and_then (λ v. walk A v Xs) o ≡ some u → ((v w : ℕ) → walk A v Xs ≡ some w → Leads A v Xs w) → Leads A s (X ∷ Xs) u
-      pick none e g k = absurd (none-ne-some _ g)
-      pick (some v) e g k = onward e (k v u g)
+      pick : (o : Option ℕ) → A.goto s X ≡ o → option_and_then (λ v. walk A v Xs) o ≡ Some u → ((v w : ℕ) → walk A v Xs ≡ Some w → Leads A v Xs w) → Leads A s (X ∷ Xs) u
+      pick None e g k = cc
+      pick (Some v) e g k = onward e (k v u g)
 
 -- The test passes at some code of the list, with the codes before it and behind it.
 abbrev pub any_cut : (List ℕ → ℕ → List ℕ → Bool) → List ℕ → Bool

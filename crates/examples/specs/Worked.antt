@@ -1,6 +1,5 @@
 -- What three small sheets come to: one joint table of examples, a row each.
-use Rattle.std.specs.Prelude.{◌≡◌, ℕ, ◌⊎◌, ◌↔◌, [], ◌∷◌}
-use Rattle.std.proofs.Math.Option.{some}
+use Rattle.std.specs.Prelude.{◌≡◌, ℕ, ◌⊎◌, ◌↔◌, [], ◌∷◌, Some}
 use Rattle.grammar.specs.Lookahead.{Lookahead}
 use Rattle.grammar.specs.Line.{Turned, after}
 use Rattle.grammar.specs.Outcome.{Built, built, Outcome}
@@ -24,7 +23,7 @@ pub record Worked : Type 0 where
   -- Sheet B builds.
   pub b_builds : Outcome sheet_b (built 10 (automaton tables_b) (cells tables_b))
   -- In its state 5, word 1 shifts and word 3 reduces by rule 4.
-  pub b_shifts : cells tables_b 5 1 ≡ some (Shift 8)
-  pub b_reduces : cells tables_b 5 3 ≡ some (Reduce 4)
+  pub b_shifts : cells tables_b 5 1 ≡ Some (Shift 8)
+  pub b_reduces : cells tables_b 5 3 ≡ Some (Reduce 4)
   -- Sheet C is refused: in its state 2, at word 1, rules 5 and 6 meet.
   pub c_conflict : Outcome sheet_c (Built.refused (Conflict 2 1 (Reduce 5) (Reduce 6)))

@@ -3,7 +3,9 @@ use Rattle.std.proofs.Common.{◌≡◌, ℕ, ◌+◌, ◌<◌, ◌≤◌, List,
 use Rattle.std.proofs.lemmas.Bool.{cases_order}
 use Rattle.gather.specs.Gathered.{PartOf}
 use Rattle.gather.specs.Reach.{Step}
-use Rattle.gather.specs.Stack.{Snapshot, value, mark, at, TakenIn, Settled, Kept, Walked}
+use Rattle.gather.specs.declared.visit.Visit.TheVariants.{Unseen}
+use Rattle.gather.specs.Stack.{Snapshot, value, visit, mark, at, top, TakenIn, Settled, Kept, Walked}
+use Rattle.gather.specs.Visits.{rank}
 use Rattle.gather.proofs.Parts.{Lattice, part_as}
 use Rattle.gather.proofs.Turns.{Turn, Joint}
 
@@ -26,7 +28,7 @@ module _ {M : Type 0} {none : M} {op : M → M → M} {targets : ℕ → List �
   }
 
   -- The next place was seen before.
-  pub seen_before : {s₀ s : Snapshot M} {x h k : ℕ} (t : ℕ) → Turn none op targets seeds s₀ s x h k → Step (length seeds) targets x t → (mark s t ≡ 0 → ⊥) → Joint none op targets seeds s₀ s x h k s.top t
+  pub seen_before : {s₀ s : Snapshot M} {x h k : ℕ} (t : ℕ) → Turn none op targets seeds s₀ s x h k → Step (length seeds) targets x t → (visit s t ≡ Unseen → ⊥) → Joint none op targets seeds s₀ s x h k (top s) t
   seen_before {s₀} {s} {x} {h} {k} t u hop nz = record {
     sound = u.sound;
     fresh = u.fresh;
@@ -42,36 +44,36 @@ module _ {M : Type 0} {none : M} {op : M → M → M} {targets : ℕ → List �
   }
 
   -- What was taken in stays so over a walk.
-  taken_kept : {s s' : Snapshot M} → Kept none op targets seeds s s' s.top → s.top ≤ s'.top → (w t : ℕ) → w < length seeds → t < length seeds → (mark s w ≡ 0 → ⊥) → TakenIn none op targets seeds s w t → TakenIn none op targets seeds s' w t
+  taken_kept : {s s' : Snapshot M} → Kept none op targets seeds s s' (top s) → top s ≤ top s' → (w t : ℕ) → w < length seeds → t < length seeds → (visit s w ≡ Unseen → ⊥) → TakenIn none op targets seeds s w t → TakenIn none op targets seeds s' w t
   taken_kept {s = s} {s' = s'} κ grows w t in_w in_t nz taken =
-      let mw = κ.marked w in_w nz in
+      let mw = ap rank (κ.visited w in_w nz) in
       let vw = κ.valued w in_w nz in
       ⊎_elim
       (λ done.
-      let nz' : mark s t ≡ 0 → ⊥ = λ e. omega (arith, done.0) in
-      inl (κ.marked t in_t nz' ∙ done.0, part_as op (value none s t) (value none s' t) (value none s w) (value none s' w) (κ.valued t in_t nz') vw done.1))
+      let nz' : visit s t ≡ Unseen → ⊥ = λ e. omega (arith, ap rank (sym done.0 ∙ e)) in
+      inl (κ.visited t in_t nz' ∙ done.0, part_as op (value none s t) (value none s' t) (value none s w) (value none s' w) (κ.valued t in_t nz') vw done.1))
       (λ on. inr (on.0, omega (arith, on.1), κ.stacked on.0 on.1 ∙ on.2, omega (arith, on.3, mw)))
       taken
 
   -- The next place was not seen yet, and was walked from.
-  module _ (laws : Lattice op) {s₀ s s' : Snapshot M} {x h k : ℕ} (t : ℕ) (u : Turn none op targets seeds s₀ s x h k) (hop : Step (length seeds) targets x t) (new : mark s t ≡ 0) (r : Walked none op targets seeds s s' t) where
-    grows : s.top ≤ s'.top
+  module _ (laws : Lattice op) {s₀ s s' : Snapshot M} {x h k : ℕ} (t : ℕ) (u : Turn none op targets seeds s₀ s x h k) (hop : Step (length seeds) targets x t) (new : visit s t ≡ Unseen) (r : Walked none op targets seeds s s' t) where
+    grows : top s ≤ (top s')
     grows = ⊎_elim (λ e. omega (arith, e.0)) (λ y. omega (arith, y.there)) r.ends
 
-    on_stack : (a : ℕ) → a < s.top → mark s (at s a) ≡ 0 → ⊥
-    on_stack a l e = omega (arith, u.sound.some a l)
+    on_stack : (a : ℕ) → a < top s → visit s (at s a) ≡ Unseen → ⊥
+    on_stack a l e = omega (arith, ap rank e, u.sound.some a l)
 
-    x_seen : mark s x ≡ 0 → ⊥
-    x_seen e = on_stack h u.there (ap (mark s) u.is ∙ e)
+    x_seen : visit s x ≡ Unseen → ⊥
+    x_seen e = on_stack h u.there (ap (visit s) u.is ∙ e)
 
-    settled_kept : (a : ℕ) → h < a → a < s.top → Settled none op targets seeds s' x a
+    settled_kept : (a : ℕ) → h < a → a < top s → Settled none op targets seeds s' x a
     settled_kept a g l =
         let f = u.settled a g l in
         let κ = r.kept in
         let same : at s' a ≡ at s a = κ.stacked a l in
         let in_a = u.sound.inside a l in
-        let ma : mark s' (at s' a) ≡ mark s (at s a) = ap (mark s') same ∙ κ.marked (at s a) in_a (on_stack a l) in
-        let mx = κ.marked x u.in_x x_seen in
+        let ma : mark s' (at s' a) ≡ mark s (at s a) = ap (mark s') same ∙ ap rank (κ.visited (at s a) in_a (on_stack a l)) in
+        let mx = ap rank (κ.visited x u.in_x x_seen) in
         let va : value none s' (at s' a) ≡ value none s (at s a) = ap (value none s') same ∙ κ.valued (at s a) in_a (on_stack a l) in
         let vx = κ.valued x u.in_x x_seen in
         record {
@@ -84,7 +86,7 @@ module _ {M : Type 0} {none : M} {op : M → M → M} {targets : ℕ → List �
               subst (λ p. TakenIn none op targets seeds s' p t') (sym same) in_it;
         }
 
-    settled_new : (a : ℕ) → s.top ≤ a → a < s'.top → Settled none op targets seeds s' t a
+    settled_new : (a : ℕ) → top s ≤ a → a < top s' → Settled none op targets seeds s' t a
     settled_new a g l =
         ⊎_elim
         (λ e. absurd (omega (arith, e.0)))
@@ -100,10 +102,10 @@ module _ {M : Type 0} {none : M} {op : M → M → M} {targets : ℕ → List �
           taken = λ t' hop'. subst (λ p. TakenIn none op targets seeds s' p t') (sym is) (y.taken t' (subst (λ p. Step (length seeds) targets p t') is hop'));
         })
         (⊎_elim (λ lt. absurd (omega arith)) (λ gt. y.settled a gt l))
-        (cases_order a s.top))
+        (cases_order a (top s)))
         r.ends
 
-    pub walked_from : Joint none op targets seeds s₀ s' x h k s.top t
+    pub walked_from : Joint none op targets seeds s₀ s' x h k (top s) t
     walked_from =
         let κ = r.kept in
         let up = grows in
@@ -118,14 +120,14 @@ module _ {M : Type 0} {none : M} {op : M → M → M} {targets : ℕ → List �
           more = settled_new;
           taken = λ q t' l b e i. taken_kept {s = s} {s' = s'} κ up x t' u.in_x i x_seen (u.taken q t' l b e i);
           kept = record {
-            marked = λ p l nz.
-                let one = u.kept.marked p l nz in
-                κ.marked p l (λ e. nz (sym one ∙ e)) ∙ one;
+            visited = λ p l nz.
+                let one = u.kept.visited p l nz in
+                κ.visited p l (λ e. nz (sym one ∙ e)) ∙ one;
             valued = λ p l nz.
-                let one = u.kept.marked p l nz in
+                let one = u.kept.visited p l nz in
                 κ.valued p l (λ e. nz (sym one ∙ e)) ∙ u.kept.valued p l nz;
             stacked = λ a l. κ.stacked a (omega (arith, u.there)) ∙ u.kept.stacked a l;
             fewer = omega (arith, κ.fewer, u.kept.fewer);
           };
-          seen = ⊎_elim (λ e. inl e.1) (λ y. inr (s.top, y.there, y.is)) r.ends;
+          seen = ⊎_elim (λ e. inl e.1) (λ y. inr ((top s), y.there, y.is)) r.ends;
         }

@@ -1,32 +1,38 @@
 -- A turn of the loop over the next places of x, from where the next place t is seen: its mark and its value are taken in.
-use Rattle.std.proofs.Common.{◌≡◌, ℕ, ◌+◌, ◌-◌, ◌<◌, ◌≤◌, min, List, length, get_or, set, sym, refl, ap, ◌∙◌, subst, inl, inr, ⊎_elim, arith}
+use Rattle.std.proofs.Common.{◌≡◌, ℕ, ◌+◌, ◌-◌, ◌<◌, ◌≤◌, min, List, length, get_or, sym, refl, ap, ◌∙◌, subst, inl, inr, ⊎_elim, arith}
 use Rattle.std.proofs.lemmas.List.{length-set, get_or-set_same, get_or-set_other}
 use Rattle.std.proofs.lemmas.Bool.{cases_eq, cases_order, cases_lt}
 use Rattle.gather.specs.Gathered.{PartOf, JoinedFrom, both}
 use Rattle.gather.specs.Reach.{Reaches, here, step}
-use Rattle.gather.specs.Stack.{Snapshot, snap, value, mark, at, unseen, Sound, TakenIn, Settled}
-use Rattle.gather.proofs.Counts.{unseen_same}
+use Rattle.gather.specs.declared.visit.Visit.TheVariants.{Unseen, Done}
+use Rattle.gather.specs.Stack.{Snapshot, folded, value, visit, mark, at, top, unseen, Sound, TakenIn, Settled}
+use Rattle.gather.specs.Visits.{is_unseen, lower, rank}
+use Rattle.gather.proofs.Counts.{is_seen, unseen_same}
 use Rattle.gather.proofs.Parts.{Lattice, part_trans, part_left, part_right, part_as}
 use Rattle.gather.proofs.Paths.{joined_on}
-use Rattle.gather.proofs.Turns.{Turn, Joint, turn_as}
+use Rattle.gather.proofs.Ranks.{rank_lower}
+use Rattle.gather.proofs.Turns.{Turn, Joint}
 
 module _ {M : Type 0} {none : M} {op : M → M → M} (laws : Lattice op) {targets : ℕ → List ℕ} {seeds : List M} {s₀ s : Snapshot M} {x h k mid : ℕ} (t : ℕ) (u : Joint none op targets seeds s₀ s x h k mid t) (read : get_or (targets x) k 0 ≡ t) where
-  abbrev folded : Snapshot M
-  folded = snap (set s.values x (op (value none s x) (value none s t))) (set s.marks x (min (mark s x) (mark s t))) s.stack s.top
+  abbrev after : Snapshot M
+  after = folded none op s x t
 
-  mark_x : mark folded x ≡ min (mark s x) (mark s t)
-  mark_x = let long = u.sound.sizes in get_or-set_same s.marks x (min (mark s x) (mark s t)) 0 (omega (arith, u.in_x))
+  visit_x : visit after x ≡ lower (visit s x) (visit s t)
+  visit_x = let long = u.sound.sizes in get_or-set_same s.visits x (lower (visit s x) (visit s t)) Unseen (omega (arith, u.in_x))
 
-  mark_other : (p : ℕ) → (p ≡ x → ⊥) → mark folded p ≡ mark s p
-  mark_other p ne = get_or-set_other s.marks x p (min (mark s x) (mark s t)) 0 ne
+  visit_other : (p : ℕ) → (p ≡ x → ⊥) → visit after p ≡ visit s p
+  visit_other p ne = get_or-set_other s.visits x p (lower (visit s x) (visit s t)) Unseen ne
 
-  value_x : value none folded x ≡ op (value none s x) (value none s t)
+  mark_other : (p : ℕ) → (p ≡ x → ⊥) → mark after p ≡ mark s p
+  mark_other p ne = ap rank (visit_other p ne)
+
+  value_x : value none after x ≡ op (value none s x) (value none s t)
   value_x = let long = u.sound.size in get_or-set_same s.values x (op (value none s x) (value none s t)) none (omega (arith, u.in_x))
 
-  value_other : (p : ℕ) → (p ≡ x → ⊥) → value none folded p ≡ value none s p
+  value_other : (p : ℕ) → (p ≡ x → ⊥) → value none after p ≡ value none s p
   value_other p ne = get_or-set_other s.values x p (op (value none s x) (value none s t)) none ne
 
-  short : s.top ≤ 2304
+  short : top s ≤ 2304
   short = omega (arith, u.sound.free, u.sound.few)
 
   x_as : mark s (at s h) ≡ mark s x
@@ -39,82 +45,88 @@ module _ {M : Type 0} {none : M} {op : M → M → M} (laws : Lattice op) {targe
   x_low = omega (arith, x_as, u.sound.low h u.there)
 
   t_some : 1 ≤ mark s t
-  t_some = ⊎_elim (λ d. omega arith) (λ on. omega (arith, ap (mark s) on.2, u.sound.some on.0 on.1)) u.seen
+  t_some = ⊎_elim (λ d. omega (arith, ap rank d)) (λ on. omega (arith, ap (mark s) on.2, u.sound.some on.0 on.1)) u.seen
 
-  lowers : (p : ℕ) → mark folded p ≤ mark s p
-  lowers p = ⊎_elim (λ e. omega (arith, ap (mark folded) e, ap (mark s) e, mark_x)) (λ ne. omega (arith, mark_other p ne)) (cases_eq p x)
+  t_low : mark s t ≤ 2305
+  t_low = ⊎_elim (λ d. omega (arith, ap rank d)) (λ on. omega (arith, ap (mark s) on.2, u.sound.low on.0 on.1, short)) u.seen
 
-  somes : (p : ℕ) → 1 ≤ mark s p → 1 ≤ mark folded p
-  somes p l = ⊎_elim (λ e. omega (arith, ap (mark folded) e, mark_x, x_some, t_some)) (λ ne. omega (arith, mark_other p ne)) (cases_eq p x)
+  mark_x : mark after x ≡ min (mark s x) (mark s t)
+  mark_x = ap rank visit_x ∙ rank_lower (visit s x) (visit s t) (omega (arith, x_low, u.there, short)) t_low
+
+  lowers : (p : ℕ) → mark after p ≤ mark s p
+  lowers p = ⊎_elim (λ e. omega (arith, ap (mark after) e, ap (mark s) e, mark_x)) (λ ne. omega (arith, mark_other p ne)) (cases_eq p x)
+
+  somes : (p : ℕ) → 1 ≤ mark s p → 1 ≤ mark after p
+  somes p l = ⊎_elim (λ e. omega (arith, ap (mark after) e, mark_x, x_some, t_some)) (λ ne. omega (arith, mark_other p ne)) (cases_eq p x)
 
   -- What is done is not x, before and after.
-  done_off : (p : ℕ) → mark s p ≡ 2305 → p ≡ x → ⊥
-  done_off p d e = omega (arith, ap (mark s) e, x_low, short, u.there)
+  done_off : (p : ℕ) → visit s p ≡ Done → p ≡ x → ⊥
+  done_off p d e = omega (arith, ap rank d, ap (mark s) e, x_low, short, u.there)
 
-  done_off' : (p : ℕ) → mark folded p ≡ 2305 → p ≡ x → ⊥
-  done_off' p d e = omega (arith, ap (mark folded) e, mark_x, x_low, short, u.there)
+  done_off' : (p : ℕ) → visit after p ≡ Done → p ≡ x → ⊥
+  done_off' p d e = omega (arith, ap rank d, ap (mark after) e, mark_x, x_low, short, u.there)
 
-  grow : (p : ℕ) → PartOf op (value none s p) (value none folded p)
+  grow : (p : ℕ) → PartOf op (value none s p) (value none after p)
   grow p =
       ⊎_elim
-      (λ e. part_as op (value none s x) (value none s p) (op (value none s x) (value none s t)) (value none folded p) (ap (value none s) e) (ap (value none folded) e ∙ value_x) (part_left laws (value none s x) (value none s t)))
-      (λ ne. part_as op (value none s p) (value none s p) (value none s p) (value none folded p) refl (value_other p ne) (laws.idem (value none s p)))
+      (λ e. part_as op (value none s x) (value none s p) (op (value none s x) (value none s t)) (value none after p) (ap (value none s) e) (ap (value none after) e ∙ value_x) (part_left laws (value none s x) (value none s t)))
+      (λ ne. part_as op (value none s p) (value none s p) (value none s p) (value none after p) refl (value_other p ne) (laws.idem (value none s p)))
       (cases_eq p x)
 
-  lift : (y : M) (p : ℕ) → PartOf op y (value none s p) → PartOf op y (value none folded p)
-  lift y p b = part_trans laws y (value none s p) (value none folded p) b (grow p)
+  lift : (y : M) (p : ℕ) → PartOf op y (value none s p) → PartOf op y (value none after p)
+  lift y p b = part_trans laws y (value none s p) (value none after p) b (grow p)
 
-  t_below : PartOf op (value none s t) (value none folded x)
-  t_below = part_as op (value none s t) (value none s t) (op (value none s x) (value none s t)) (value none folded x) refl value_x (part_right laws (value none s x) (value none s t))
+  t_below : PartOf op (value none s t) (value none after x)
+  t_below = part_as op (value none s t) (value none s t) (op (value none s x) (value none s t)) (value none after x) refl value_x (part_right laws (value none s x) (value none s t))
 
-  fold_back : (a : ℕ) → a < s.top → Reaches (length seeds) targets (at s a) (at s (mark folded (at s a) - 1))
+  fold_back : (a : ℕ) → a < top s → Reaches (length seeds) targets (at s a) (at s (mark after (at s a) - 1))
   fold_back a l =
-      let as_before : mark folded (at s a) ≡ mark s (at s a) → Reaches (length seeds) targets (at s a) (at s (mark folded (at s a) - 1)) =
+      let as_before : mark after (at s a) ≡ mark s (at s a) → Reaches (length seeds) targets (at s a) (at s (mark after (at s a) - 1)) =
       λ e. subst (λ i. Reaches (length seeds) targets (at s a) (at s (i - 1))) (sym e) (u.sound.back a l) in
       ⊎_elim
       (λ e.
       ⊎_elim
       (λ lt.
       ⊎_elim
-      (λ d. absurd (omega (arith, x_low, short, u.there)))
+      (λ d. absurd (omega (arith, ap rank d, x_low, short, u.there)))
       (λ on.
       let far : Reaches (length seeds) targets t (at s (mark s t - 1)) =
       subst (λ p. Reaches (length seeds) targets p (at s (mark s p - 1))) on.2 (u.sound.back on.0 on.1) in
       let way : Reaches (length seeds) targets x (at s (mark s t - 1)) = step u.hop far in
-      let index : mark s t ≡ mark folded (at s a) = omega (arith, ap (mark folded) e, mark_x) in
-      subst (λ p. Reaches (length seeds) targets p (at s (mark folded (at s a) - 1))) (sym e)
+      let index : mark s t ≡ mark after (at s a) = omega (arith, ap (mark after) e, mark_x) in
+      subst (λ p. Reaches (length seeds) targets p (at s (mark after (at s a) - 1))) (sym e)
       (subst (λ i. Reaches (length seeds) targets x (at s (i - 1))) index way))
       u.seen)
-      (λ ge. as_before (omega (arith, ap (mark folded) e, ap (mark s) e, mark_x)))
+      (λ ge. as_before (omega (arith, ap (mark after) e, ap (mark s) e, mark_x)))
       (cases_lt (mark s t) (mark s x)))
       (λ ne. as_before (mark_other (at s a) ne))
       (cases_eq (at s a) x)
 
-  fold_only : JoinedFrom none op targets seeds x (value none folded x)
+  fold_only : JoinedFrom none op targets seeds x (value none after x)
   fold_only = subst (JoinedFrom none op targets seeds x) (sym value_x) (both (u.sound.only x u.in_x) (joined_on (step u.hop here) (u.sound.only t u.hop.inside)))
 
-  same_unseen : unseen folded.marks ≡ unseen s.marks
+  same_unseen : unseen after.visits ≡ unseen s.visits
   same_unseen =
-      unseen_same s.marks folded.marks (length-set s.marks x (min (mark s x) (mark s t))) (λ p l. (
-        λ z. ⊎_elim (λ e. absurd (omega (arith, ap (mark s) e, x_some))) (λ ne. mark_other p ne ∙ z) (cases_eq p x),
-        λ z. ⊎_elim (λ e. absurd (omega (arith, ap (mark folded) e, mark_x, x_some, t_some))) (λ ne. sym (mark_other p ne) ∙ z) (cases_eq p x),
-      ))
+      unseen_same s.visits after.visits (length-set s.visits x (lower (visit s x) (visit s t))) (λ p l.
+      ⊎_elim
+      (λ e. is_seen (visit after p) (omega (arith, ap (mark after) e, mark_x, x_some, t_some)) ∙ sym (is_seen (visit s p) (omega (arith, ap (mark s) e, x_some))))
+      (λ ne. ap is_unseen (visit_other p ne))
+      (cases_eq p x))
 
-  fold_sound : Sound none op targets seeds folded
+  fold_sound : Sound none op targets seeds after
   fold_sound =
       let w = u.sound in
       record {
         size = length-set s.values x (op (value none s x) (value none s t)) ∙ w.size;
-        sizes = omega (arith, length-set s.marks x (min (mark s x) (mark s t)), w.sizes);
-        room = omega (arith, length-set s.marks x (min (mark s x) (mark s t)), w.room);
-        few = omega (arith, length-set s.marks x (min (mark s x) (mark s t)), w.few);
+        sizes = omega (arith, length-set s.visits x (lower (visit s x) (visit s t)), w.sizes);
+        few = omega (arith, length-set s.visits x (lower (visit s x) (visit s t)), w.few);
         only = λ p l.
             ⊎_elim
-            (λ e. subst (λ q. JoinedFrom none op targets seeds q (value none folded q)) (sym e) fold_only)
+            (λ e. subst (λ q. JoinedFrom none op targets seeds q (value none after q)) (sym e) fold_only)
             (λ ne. subst (JoinedFrom none op targets seeds p) (sym (value_other p ne)) (w.only p l))
             (cases_eq p x);
         own = λ p l. lift (get_or seeds p none) p (w.own p l);
-        free = omega (arith, same_unseen, length-set s.marks x (min (mark s x) (mark s t)), w.free);
+        free = omega (arith, same_unseen, length-set s.visits x (lower (visit s x) (visit s t)), w.free);
         inside = w.inside;
         apart = w.apart;
         some = λ a l. somes (at s a) (w.some a l);
@@ -123,43 +135,43 @@ module _ {M : Type 0} {none : M} {op : M → M → M} (laws : Lattice op) {targe
         sorts = λ p l.
             ⊎_elim
             (λ e. inr (inr (h, u.there, u.is ∙ sym e)))
-            (λ ne. ⊎_elim (λ z. inl (mark_other p ne ∙ z)) (⊎_elim (λ d. inr (inl (mark_other p ne ∙ d))) (λ on. inr (inr on))) (w.sorts p l))
+            (λ ne. ⊎_elim (λ z. inl (visit_other p ne ∙ z)) (⊎_elim (λ d. inr (inl (visit_other p ne ∙ d))) (λ on. inr (inr on))) (w.sorts p l))
             (cases_eq p x);
         done = λ p t' l d hop'.
             let ne = done_off' p d in
-            let old = w.done p t' l (sym (mark_other p ne) ∙ d) hop' in
+            let old = w.done p t' l (sym (visit_other p ne) ∙ d) hop' in
             let ne' = done_off t' old.0 in
-            (mark_other t' ne' ∙ old.0, part_as op (value none s t') (value none folded t') (value none s p) (value none folded p) (value_other t' ne') (value_other p ne) old.1);
+            (visit_other t' ne' ∙ old.0, part_as op (value none s t') (value none after t') (value none s p) (value none after p) (value_other t' ne') (value_other p ne) old.1);
       }
 
-  taken_other : (w t' : ℕ) → (w ≡ x → ⊥) → TakenIn none op targets seeds s w t' → TakenIn none op targets seeds folded w t'
+  taken_other : (w t' : ℕ) → (w ≡ x → ⊥) → TakenIn none op targets seeds s w t' → TakenIn none op targets seeds after w t'
   taken_other w t' ne in_it =
       ⊎_elim
       (λ done.
       let ne' = done_off t' done.0 in
-      inl (mark_other t' ne' ∙ done.0, part_as op (value none s t') (value none folded t') (value none s w) (value none folded w) (value_other t' ne') (value_other w ne) done.1))
+      inl (visit_other t' ne' ∙ done.0, part_as op (value none s t') (value none after t') (value none s w) (value none after w) (value_other t' ne') (value_other w ne) done.1))
       (λ on. inr (on.0, on.1, on.2, omega (arith, on.3, mark_other w ne)))
       in_it
 
-  taken_x : (t' : ℕ) → TakenIn none op targets seeds s x t' → TakenIn none op targets seeds folded x t'
+  taken_x : (t' : ℕ) → TakenIn none op targets seeds s x t' → TakenIn none op targets seeds after x t'
   taken_x t' in_it =
       ⊎_elim
       (λ done.
       let ne' = done_off t' done.0 in
-      inl (mark_other t' ne' ∙ done.0, subst (λ y. PartOf op y (value none folded x)) (sym (value_other t' ne')) (lift (value none s t') x done.1)))
+      inl (visit_other t' ne' ∙ done.0, subst (λ y. PartOf op y (value none after x)) (sym (value_other t' ne')) (lift (value none s t') x done.1)))
       (λ on. inr (on.0, on.1, on.2, omega (arith, on.3, mark_x)))
       in_it
 
-  taken_t : TakenIn none op targets seeds folded x t
+  taken_t : TakenIn none op targets seeds after x t
   taken_t =
       ⊎_elim
       (λ d.
       let ne = done_off t d in
-      inl (mark_other t ne ∙ d, subst (λ y. PartOf op y (value none folded x)) (sym (value_other t ne)) t_below))
+      inl (visit_other t ne ∙ d, subst (λ y. PartOf op y (value none after x)) (sym (value_other t ne)) t_below))
       (λ on. inr (on.0, on.1, on.2, omega (arith, mark_x, ap (mark s) on.2, u.sound.low on.0 on.1)))
       u.seen
 
-  fold_settled : (a : ℕ) → h < a → a < s.top → Settled none op targets seeds folded x a
+  fold_settled : (a : ℕ) → h < a → a < top s → Settled none op targets seeds after x a
   fold_settled a g l =
       let ne : at s a ≡ x → ⊥ = λ e. omega (arith, u.sound.apart a h l u.there (e ∙ sym u.is)) in
       ⊎_elim
@@ -168,7 +180,7 @@ module _ {M : Type 0} {none : M} {op : M → M → M} (laws : Lattice op) {targe
       record {
         lower = omega (arith, mark_other (at s a) ne, f.lower);
         above = omega (arith, mark_other (at s a) ne, mark_x, f.above);
-        under = subst (λ y. PartOf op y (value none folded x)) (sym (value_other (at s a) ne)) (lift (value none s (at s a)) x f.under);
+        under = subst (λ y. PartOf op y (value none after x)) (sym (value_other (at s a) ne)) (lift (value none s (at s a)) x f.under);
         taken = λ t' hop'. taken_other (at s a) t' ne (f.taken t' hop');
       })
       (λ ge.
@@ -176,12 +188,12 @@ module _ {M : Type 0} {none : M} {op : M → M → M} (laws : Lattice op) {targe
       record {
         lower = omega (arith, mark_other (at s a) ne, f.lower);
         above = omega (arith, mark_other (at s a) ne, mark_x, f.above);
-        under = subst (λ y. PartOf op y (value none folded x)) (sym (value_other (at s a) ne)) (part_trans laws (value none s (at s a)) (value none s t) (value none folded x) f.under t_below);
+        under = subst (λ y. PartOf op y (value none after x)) (sym (value_other (at s a) ne)) (part_trans laws (value none s (at s a)) (value none s t) (value none after x) f.under t_below);
         taken = λ t' hop'. taken_other (at s a) t' ne (f.taken t' hop');
       })
       (cases_lt a mid)
 
-  fold_turn : Turn none op targets seeds s₀ folded x h (k + 1)
+  pub fold_turn : Turn none op targets seeds s₀ after x h (k + 1)
   fold_turn = record {
     sound = fold_sound;
     fresh = u.fresh;
@@ -191,16 +203,13 @@ module _ {M : Type 0} {none : M} {op : M → M → M} (laws : Lattice op) {targe
     settled = fold_settled;
     taken = λ q t' l b e i.
         ⊎_elim
-        (λ same. subst (λ y. TakenIn none op targets seeds folded x y) (sym read ∙ ap (λ y. get_or (targets x) y 0) (sym same) ∙ e) taken_t)
+        (λ same. subst (λ y. TakenIn none op targets seeds after x y) (sym read ∙ ap (λ y. get_or (targets x) y 0) (sym same) ∙ e) taken_t)
         (⊎_elim (λ lt. taken_x t' (u.taken q t' lt b e i)) (λ gt. absurd (omega arith)))
         (cases_order q k);
     kept = record {
-      marked = λ p l nz. let ne : p ≡ x → ⊥ = λ e. nz (ap (mark s₀) e ∙ u.fresh) in mark_other p ne ∙ u.kept.marked p l nz;
-      valued = λ p l nz. let ne : p ≡ x → ⊥ = λ e. nz (ap (mark s₀) e ∙ u.fresh) in value_other p ne ∙ u.kept.valued p l nz;
+      visited = λ p l nz. let ne : p ≡ x → ⊥ = λ e. nz (ap (visit s₀) e ∙ u.fresh) in visit_other p ne ∙ u.kept.visited p l nz;
+      valued = λ p l nz. let ne : p ≡ x → ⊥ = λ e. nz (ap (visit s₀) e ∙ u.fresh) in value_other p ne ∙ u.kept.valued p l nz;
       stacked = u.kept.stacked;
       fewer = omega (arith, same_unseen, u.kept.fewer);
     };
   }
-
-  pub fold_more : {values : List M} {marks stack : List ℕ} {top : ℕ} → values ≡ folded.values → marks ≡ folded.marks → stack ≡ folded.stack → top ≡ folded.top → Turn none op targets seeds s₀ (snap values marks stack top) x h (k + 1)
-  fold_more v m st p = turn_as v m st p fold_turn

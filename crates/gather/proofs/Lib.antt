@@ -7,6 +7,7 @@ mod Closing
 mod Turns
 mod Pushes
 mod Calls
+mod Ranks
 mod Folds
 mod Pops
 mod Ends

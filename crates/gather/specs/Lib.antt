@@ -4,6 +4,7 @@ pub mod Marks
 pub mod MarkLaws
 pub mod Reach
 pub mod Gathered
+pub mod Visits
 pub mod Stack
 pub mod Sets
 pub mod Bitwise

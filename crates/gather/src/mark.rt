@@ -5,22 +5,24 @@ ghost use Rattle.std.specs.Prelude.{◌≡◌};
 use super::join::Join;
 
 // Yes or no.
-#[derive(Clone, Copy)]
+#[derive(Clone, Copy, PartialEq, Eq, Debug)]
 pub struct Mark(bool);
 
-impl Mark {
+impl From<bool> for Mark {
+    ghost from_gives = { λ answer mark. marked mark ≡ answer };
+
     // The mark for this answer.
-    pub fn of(answer: bool) -> Mark
-        ensures { marked result ≡ answer }
-    {
+    fn from(answer: bool) -> Mark {
         Mark(answer)
     }
+}
+
+impl From<Mark> for bool {
+    ghost from_gives = { λ mark answer. answer ≡ marked mark };
 
     // Whether the mark is yes.
-    pub fn is_yes(self) -> bool
-        ensures { result ≡ marked self }
-    {
-        self.0
+    fn from(mark: Mark) -> bool {
+        mark.0
     }
 }
 

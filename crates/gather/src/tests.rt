@@ -1,11 +1,12 @@
 ghost use Rattle.std.specs.List.{slice_get};
 ghost use Rattle.std.specs.Prelude.{[], ◌∷◌, Some, None};
 
+use super::gathering::{TooManyPlaces, gather};
 use super::join::Join;
 use super::mark::Mark;
 use super::relation::Relation;
-use super::walk::gather;
 use super::word_set::WordSet;
+use std::array::from_fn;
 use std::process::Abort;
 
 // Each place has the two next places of its pair.
@@ -16,10 +17,7 @@ impl<'a> Relation for Pairs<'a> {
     ghost targets = { λ s p. elim (slice_get s.0.now p) [ None ↦ [] | Some t ↦ t.0 ∷ t.1 ∷ [] ] };
 
     fn next(&self, place: usize, k: usize) -> Option<usize> {
-        if place >= self.0.len() {
-            return None;
-        }
-        let (first, second) = self.0[place];
+        let &(first, second) = self.0.get(place)?;
         match k {
             0 => Some(first),
             1 => Some(second),
@@ -37,13 +35,15 @@ fn sets(rt: &impl Abort, name: &str, targets: &[(usize, usize)], reached: &[u64]
         WordSet::one(2),
         WordSet::one(3),
     ];
-    assert!(rt;
+    assert_eq!(rt;
         gather(&mut values[..reached.len()], &Pairs(targets)),
+        Ok(()),
         "{name}"
     );
-    for i in 0..reached.len() {
+    for (value, bits) in values.iter().zip(reached) {
+        // Each number that a set can have.
         for j in 0..64usize {
-            assert_eq!(rt; values[i].has(j), (reached[i] >> j) & 1 == 1, "{name}");
+            assert_eq!(rt; value.has(j), (bits >> j) & 1 == 1, "{name}");
         }
     }
 }
@@ -52,13 +52,14 @@ fn sets(rt: &impl Abort, name: &str, targets: &[(usize, usize)], reached: &[u64]
 fn marks(rt: &impl Abort, name: &str, targets: &[(usize, usize)], reached: &[u64], from: usize) {
     assert!(rt; reached.len() <= 4 && from < 4);
     let mut values = [Mark::NONE; 4];
-    values[from] = Mark::of(true);
-    assert!(rt;
+    values[from] = Mark::from(true);
+    assert_eq!(rt;
         gather(&mut values[..reached.len()], &Pairs(targets)),
+        Ok(()),
         "{name}"
     );
-    for i in 0..reached.len() {
-        assert_eq!(rt; values[i].is_yes(), (reached[i] >> from) & 1 == 1, "{name}");
+    for (value, bits) in values.iter().zip(reached) {
+        assert_eq!(rt; bool::from(*value), (bits >> from) & 1 == 1, "{name}");
     }
 }
 
@@ -102,11 +103,7 @@ fn few_places(rt: HostRuntime) {
 
 // Each of 2,304 places leads to the next, and the last to this one.
 fn long(last: usize) -> [(usize, usize); 2304] {
-    let mut targets = [(last, 9999); 2304];
-    for i in 0..2303usize {
-        targets[i] = (i + 1, 9999);
-    }
-    targets
+    from_fn(|i| (if i < 2303 { i + 1 } else { last }, 9999))
 }
 
 #[test]
@@ -114,10 +111,15 @@ fn long_chain(rt: HostRuntime) {
     let targets = long(2304);
     let mut values = [WordSet::NONE; 2305];
     values[2303] = WordSet::one(63);
-    assert!(rt; !gather(&mut values, &Pairs(&targets)), "2,305 places");
+    assert_eq!(rt;
+        gather(&mut values, &Pairs(&targets)),
+        Err(TooManyPlaces),
+        "2,305 places"
+    );
     assert!(rt; !values[0].has(63), "left as they are");
-    assert!(rt;
+    assert_eq!(rt;
         gather(&mut values[..2304], &Pairs(&targets)),
+        Ok(()),
         "2,304 places"
     );
     assert!(rt; values[0].has(63) && values[2302].has(63));
@@ -127,12 +129,17 @@ fn long_chain(rt: HostRuntime) {
 fn long_cycle(rt: HostRuntime) {
     let targets = long(0);
     let mut values = [Mark::NONE; 2305];
-    values[1000] = Mark::of(true);
-    assert!(rt; !gather(&mut values, &Pairs(&targets)), "2,305 places");
-    assert!(rt; !values[0].is_yes(), "left as they are");
-    assert!(rt;
+    values[1000] = Mark::from(true);
+    assert_eq!(rt;
+        gather(&mut values, &Pairs(&targets)),
+        Err(TooManyPlaces),
+        "2,305 places"
+    );
+    assert!(rt; !bool::from(values[0]), "left as they are");
+    assert_eq!(rt;
         gather(&mut values[..2304], &Pairs(&targets)),
+        Ok(()),
         "2,304 places"
     );
-    assert!(rt; values[0].is_yes() && values[2303].is_yes());
+    assert!(rt; bool::from(values[0]) && bool::from(values[2303]));
 }

@@ -6,7 +6,7 @@ use super::join::Join;
 
 // What `gather` promises leaves one list only.
 pub fn gathered_once<J: Join>() -> u8
-    ensures { Once J.Join.none J.Join.op }
+    ensures { Once J.none J.op }
 {
     0
 }

@@ -1,121 +1,120 @@
-ghost use Rattle.std.specs.Prelude.{◌≡◌, ℕ, ◌+◌, ◌<◌, ◌≤◌, min, true, false, List, length, slice_index, slice_index_or, slice_set};
+ghost use Rattle.std.specs.Prelude.{◌≡◌, ℕ, ◌<◌, ◌≤◌, List, [], All, drop, length, take};
 ghost use Rattle.gather.specs.Gathered.{Gathered};
-ghost use Rattle.gather.specs.Stack.{Closed, Ready, Sound, Walked, snap};
+ghost use Rattle.gather.specs.Stack.{Completed, Ready, Sound, Walked, folded, pushed, snap, value};
 
 use super::join::Join;
-use super::relation::Relation;
+use super::relation::{Relation, Targets};
+use super::stack::Stack;
+use super::visit::Visit;
 
 // The most places that can be gathered.
 pub const PLACES: usize = 2304;
 
-// The mark of a place whose component is complete.
-const DONE: usize = 2305;
-
-// Gives the value to a place, and marks the place as done.
-fn settle<J: Join>(values: &mut [J], marks: &mut [usize], place: usize, value: J)
-    requires { (place < length values.old) × (place < length marks.old) }
-    ensures marked { marks.new ≡ slice_set marks.old place 2305 }
-    ensures valued { values.new ≡ slice_set values.old place value }
-{
-    marks[place] = DONE;
-    values[place] = value;
+// A walk over the places of a lent list.
+#[derive(Drop)]
+pub(crate) struct Walk<'a, J> {
+    values: &'a mut [J],
+    // by place too, but the lent list holds values alone
+    visits: [Visit; PLACES],
+    // the places whose component is not complete yet
+    stack: Stack,
 }
 
-// Settles each place on the stack from `low` up to `high`: a whole component has one value.
-fn close<J: Join>(
-    values: &mut [J],
-    marks: &mut [usize],
-    stack: &[usize],
-    low: usize,
-    high: usize,
-    value: J,
-)
-    requires order { (low ≤ high) × (high ≤ length stack.now) }
-    requires inside { (a : ℕ) → a < high → (slice_index stack.now a < length values.old) × (slice_index stack.now a < length marks.old) }
-    ensures { Closed J.Join.none value stack.now marks.old marks.new values.old values.new low high }
+// Gives one value to each of these places, whose component is complete.
+fn complete<J: Join>(values: &mut [J], visits: &mut [Visit], places: &[usize], value: J)
+    requires { All (λ p. (p < length values.old) × (p < length visits.old)) places.now }
+    ensures { Completed J.none value places.now values.old values.new visits.old visits.new }
 {
-    for a in low..high {
-        settle(values, marks, stack[a], value);
+    for &place in places {
+        visits[place] = Visit::Done;
+        values[place] = value;
     }
 }
 
-// Takes the mark and the value of `t` into those of `x`.
-fn fold<J: Join>(values: &mut [J], marks: &mut [usize], x: usize, t: usize)
-    requires { (x < length values.old) × (x < length marks.old) × (t < length values.old) × (t < length marks.old) }
-    ensures marked { marks.new ≡ slice_set marks.old x (min (slice_index marks.old x) (slice_index marks.old t)) }
-    ensures valued { values.new ≡ slice_set values.old x (J.Join.op (slice_index_or values.old x J.Join.none) (slice_index_or values.old t J.Join.none)) }
-{
-    let low = marks[x].min(marks[t]);
-    marks[x] = low;
-    values[x] = values[x].join(values[t]);
-}
+impl<'a, J: Join> Walk<'a, J> {
+    // A walk that has seen nothing.
+    pub(crate) fn new(values: &'a mut [J]) -> Walk<'a, J>
+        ensures lent { result.values.ghost_name ≡ values.entry.ghost_name }
+        ensures held { result.values.now ≡ values.old }
+        ensures empty { result.stack ≡ [] }
+        ensures sound { (targets : ℕ → List ℕ) → length values.old ≤ 2304 → Sound J.none J.op targets result.values.now (snap result) }
+    {
+        Walk {
+            values,
+            visits: [Visit::Unseen; PLACES],
+            stack: Stack::new(),
+        }
+    }
 
-// Walks from `x`, which was not seen yet, over all that it reaches and that was not seen yet.
-// `top` is the height of the stack before, and the answer its height after.
-fn traverse<J: Join, R: Relation>(
-    values: &mut [J],
-    marks: &mut [usize],
-    stack: &mut [usize],
-    top: usize,
-    x: usize,
-    relation: &R,
-) -> usize
-    requires { Ready J.Join.none J.Join.op (R.Relation.targets relation.now) (snap values.old marks.old stack.old top) x }
-    ensures { (seeds : List J) → Sound J.Join.none J.Join.op (R.Relation.targets relation.now) seeds (snap values.old marks.old stack.old top) → Walked J.Join.none J.Join.op (R.Relation.targets relation.now) seeds (snap values.old marks.old stack.old top) (snap values.new marks.new stack.new result) x }
-{
-    let n = values.len();
-    stack[top] = x;
-    marks[x] = top + 1;
-    let mut high = top + 1;
-    let mut k = 0;
-    while let Some(t) = relation.next(x, k) {
-        if t < n {
-            if marks[t] == 0 {
-                high = traverse(values, marks, stack, high, t, relation);
+    // Puts a place onto the stack.
+    fn push(&mut self, place: usize)
+        requires { (length self.old.stack < 2304) × (place < length self.old.visits) }
+        ensures lent { self.new.values.ghost_name ≡ self.old.values.ghost_name }
+        ensures pushed { snap self.new ≡ pushed (snap self.old) place }
+    {
+        self.visits[place] = Visit::Open(self.stack.height());
+        self.stack.push(place);
+    }
+
+    // Takes the visit and the value of `target` into those of `place`.
+    fn fold(&mut self, place: usize, target: usize)
+        requires inside { (place < length self.old.values.now) × (target < length self.old.values.now) }
+        requires few { length self.old.values.now ≤ 2304 }
+        ensures lent { self.new.values.ghost_name ≡ self.old.values.ghost_name }
+        ensures folded { snap self.new ≡ folded J.none J.op (snap self.old) place target }
+    {
+        self.visits[place] = self.visits[place].min(self.visits[target]);
+        self.values[place] = self.values[place].join(self.values[target]);
+    }
+
+    // Completes the component of a place that stands at height `low`, which leaves the stack: it has one value.
+    fn close(&mut self, place: usize, low: u16)
+        requires order { low ≤ length self.old.stack }
+        requires value { place < length self.old.values.now }
+        requires inside { All (λ p. p < length self.old.values.now) self.old.stack }
+        requires few { length self.old.values.now ≤ 2304 }
+        ensures lent { self.new.values.ghost_name ≡ self.old.values.ghost_name }
+        ensures completed { Completed J.none (value J.none (snap self.old) place) (drop low self.old.stack) self.old.values.now self.new.values.now self.old.visits self.new.visits }
+        ensures stack { self.new.stack ≡ take low self.old.stack }
+    {
+        let value = self.values[place];
+        complete(self.values, &mut self.visits, self.stack.above(low), value);
+        self.stack.cut(low);
+    }
+
+    // Walks from a place that was not seen yet over all that it reaches and that was not seen yet.
+    fn traverse<R: Relation>(&mut self, place: usize, relation: &R)
+        requires { Ready J.none J.op (R.targets relation.now) (snap self.old) place }
+        ensures lent { self.new.values.ghost_name ≡ self.old.values.ghost_name }
+        ensures walked { (seeds : List J) → Sound J.none J.op (R.targets relation.now) seeds (snap self.old) → Walked J.none J.op (R.targets relation.now) seeds (snap self.old) (snap self.new) place }
+    {
+        let height = self.stack.height();
+        self.push(place);
+        for target in Targets::of(relation, place) {
+            if target < self.values.len() {
+                if self.visits[target] == Visit::Unseen {
+                    self.traverse(target, relation);
+                }
+                self.fold(place, target);
             }
-            fold(values, marks, x, t);
         }
-        k += 1;
-    }
-    if marks[x] == top + 1 {
-        let value = values[x];
-        close(values, marks, stack, top, high, value);
-        high = top;
-    }
-    high
-}
-
-// Walks from every place that was not seen on the way from an earlier one.
-fn walk_all<J: Join, R: Relation>(
-    values: &mut [J],
-    marks: &mut [usize],
-    stack: &mut [usize],
-    relation: &R,
-)
-    requires { Sound J.Join.none J.Join.op (R.Relation.targets relation.now) values.old (snap values.old marks.old stack.old 0) }
-    ensures sound { Sound J.Join.none J.Join.op (R.Relation.targets relation.now) values.old (snap values.new marks.new stack.new 0) }
-    ensures done { (p : ℕ) → p < length values.old → slice_index marks.new p ≡ 2305 }
-{
-    let n = values.len();
-    for x in 0..n {
-        if marks[x] == 0 {
-            let _top = traverse(values, marks, stack, 0, x, relation);
+        if self.visits[place] == Visit::Open(height) {
+            self.close(place, height);
         }
     }
-}
 
-// Each place ends with the join of its own seed and the seeds of all places that it reaches.
-// A list of more than 2,304 places is left as it is, and answered no.
-// This is the Digraph walk of DeRemer and Pennello: each place is walked from once, and its list is told once.
-pub fn gather<J: Join, R: Relation>(values: &mut [J], relation: &R) -> bool
-    ensures refused { 2304 < length values.old → (result ≡ false) × (values.new ≡ values.old) }
-    ensures gathered { length values.old ≤ 2304 → (result ≡ true) × Gathered J.Join.none J.Join.op (R.Relation.targets relation.now) values.old values.new }
-{
-    if values.len() > PLACES {
-        return false;
+    // Walks from every place that was not seen on the way from an earlier one.
+    pub(crate) fn walk_all<R: Relation>(&mut self, relation: &R)
+        requires sound { Sound J.none J.op (R.targets relation.now) self.old.values.now (snap self.old) }
+        requires empty { self.old.stack ≡ [] }
+        ensures lent { self.new.values.ghost_name ≡ self.old.values.ghost_name }
+        ensures gathered { Gathered J.none J.op (R.targets relation.now) self.old.values.now self.new.values.now }
+    {
+        // by number, since the walk as a whole goes on from each place
+        for place in 0..self.values.len() {
+            if self.visits[place] == Visit::Unseen {
+                self.traverse(place, relation);
+            }
+        }
     }
-    let mut marks = [0; PLACES];
-    let mut stack = [0; PLACES];
-    walk_all(values, &mut marks, &mut stack, relation);
-    true
 }

@@ -1,7 +1,6 @@
 -- The machine gets behind each word of what it accepts, whatever comes next.
-use Rattle.std.proofs.Common.{◌≡◌, ℕ, List, [], ◌∷◌, ◌++◌, length, drop, sym, ap, ◌∙◌, subst, append_assoc}
+use Rattle.std.proofs.Common.{◌≡◌, ℕ, List, [], ◌∷◌, ◌++◌, length, drop, sym, ap, ◌∙◌, subst, append_assoc, Some}
 use mathlib.Core.List.{head-eq_of_cons-eq, tail-eq_of_cons-eq, nil≢cons}
-use mathlib.Core.Option.{some}
 use Rattle.grammar.specs.Grammar.{Grammar, Valid, left_side, right_side}
 use Rattle.grammar.specs.Derivation.{Begins}
 use Rattle.grammar.specs.States.{Automaton, Laws}
@@ -30,7 +29,7 @@ module _ {G : Grammar} {A : Automaton} where
       let y = f us (tail-eq_of_cons-eq e) j in
       (y.0, y.1, shift (subst (λ n. Holds G A s n (Shift t)) (head-eq_of_cons-eq e) h) y.2)
 
-  behind_reduce : {s a r q t : ℕ} {σ ρ i : List ℕ} (us : List ℕ) (w : ℕ) (k : List ℕ) → a ∷ i ≡ us ++ w ∷ k → Holds G A s a (Reduce r) → drop (length (right_side G r)) (s ∷ σ) ≡ q ∷ ρ → A.goto q (left_side G r) ≡ some t → Behind G A (t ∷ q ∷ ρ) us w → Behind G A (s ∷ σ) us w
+  behind_reduce : {s a r q t : ℕ} {σ ρ i : List ℕ} (us : List ℕ) (w : ℕ) (k : List ℕ) → a ∷ i ≡ us ++ w ∷ k → Holds G A s a (Reduce r) → drop (length (right_side G r)) (s ∷ σ) ≡ q ∷ ρ → A.goto q (left_side G r) ≡ Some t → Behind G A (t ∷ q ∷ ρ) us w → Behind G A (s ∷ σ) us w
   behind_reduce {s} {r = r} [] w k e h d g f j = let y = f j in (r ∷ y.0, y.1, reduce (subst (λ n. Holds G A s n (Reduce r)) (head-eq_of_cons-eq e) h) d g y.2)
   behind_reduce {s} {r = r} (u ∷ us) w k e h d g f j = let y = f j in (r ∷ y.0, y.1, reduce (subst (λ n. Holds G A s n (Reduce r)) (head-eq_of_cons-eq e) h) d g y.2)
 

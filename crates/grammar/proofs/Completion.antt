@@ -1,18 +1,16 @@
 -- Sets of items moved and completed.
-use Rattle.std.proofs.Common.{◌≡◌, ℕ, suc, true, eqb, sym, refl, ap, subst}
+use Rattle.std.proofs.Common.{◌≡◌, ℕ, suc, true, eqb, sym, refl, ap, subst, Option, Some, None, slice_get}
 use mathlib.Core.Path.{fun_ext}
-use mathlib.Core.Option.{Option, some, none}
-use lib.ListN.{get_elem?}
 use Rattle.std.proofs.lemmas.Bool.{and_parts, and_from, eqb-true, eq-eqb, false≢true}
 use Rattle.grammar.specs.Grammar.{Grammar, IsRule, left_side, right_side}
 use Rattle.grammar.specs.Items.{CodeAt, Items, Same, Closure, given, begun, Completes, origin, code_is, behind}
 use Rattle.grammar.proofs.Agreement.{bool_iff}
 
-pub code_is_lem : (o : Option ℕ) (X : ℕ) → code_is o X ≡ true → o ≡ some X
-code_is_lem none X h = absurd (false≢true h)
-code_is_lem (some Y) X h = ap {B = Option ℕ} some (eqb-true Y X h)
+pub code_is_lem : (o : Option ℕ) (X : ℕ) → code_is o X ≡ true → o ≡ Some X
+code_is_lem None X h = absurd (false≢true h)
+code_is_lem (Some Y) X h = ap {B = Option ℕ} Some (eqb-true Y X h)
 
-pub is_code : (o : Option ℕ) (X : ℕ) → o ≡ some X → code_is o X ≡ true
+pub is_code : (o : Option ℕ) (X : ℕ) → o ≡ Some X → code_is o X ≡ true
 is_code o X e = subst (λ p. code_is p X ≡ true) (sym e) (eq-eqb X X refl)
 
 -- Only rule 0 with the dot in front is there at first.
@@ -30,10 +28,10 @@ module _ (G : Grammar) where
   -- What a move takes along, and what it leaves behind the dot.
   pub moved_from : (S : Items) (X r d : ℕ) → behind G S X r (suc d) ≡ true → (S r d ≡ true) × CodeAt G r d X
   moved_from S X r d h =
-      let p = and_parts (S r d) (code_is (get_elem? (right_side G r) d) X) h in (p.0, code_is_lem (get_elem? (right_side G r) d) X p.1)
+      let p = and_parts (S r d) (code_is (slice_get (right_side G r) d) X) h in (p.0, code_is_lem (slice_get (right_side G r) d) X p.1)
 
   pub moved_onto : (S : Items) (X r d : ℕ) → S r d ≡ true → CodeAt G r d X → behind G S X r (suc d) ≡ true
-  moved_onto S X r d h k = and_from (S r d) (code_is (get_elem? (right_side G r) d) X) h (is_code (get_elem? (right_side G r) d) X k)
+  moved_onto S X r d h k = and_from (S r d) (code_is (slice_get (right_side G r) d) X) h (is_code (slice_get (right_side G r) d) X k)
 
   -- Completing adds only items with the dot in front.
   pub was_given : {K : Items} {r d : ℕ} → Closure G K r (suc d) → K r (suc d) ≡ true

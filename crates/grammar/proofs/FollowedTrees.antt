@@ -1,6 +1,5 @@
 -- The machine follows every tree, so it accepts every sentence with the rules of its tree.
-use Rattle.std.proofs.Common.{◌≡◌, ℕ, List, [], ◌∷◌, ◌++◌, length, drop, sym, refl, ap, ◌∙◌, subst, append_assoc}
-use mathlib.Core.Option.{some}
+use Rattle.std.proofs.Common.{◌≡◌, ℕ, List, [], ◌∷◌, ◌++◌, length, drop, sym, refl, ap, ◌∙◌, subst, append_assoc, Some}
 use Rattle.grammar.specs.Grammar.{Grammar, IsNonterminal, IsRule, Valid, left_side, right_side, start}
 use Rattle.grammar.specs.Trees.{Forest, empty, leaf, node, TreeOf}
 use Rattle.grammar.specs.States.{Automaton, Laws}
@@ -34,7 +33,7 @@ module _ {G : Grammar} {A : Automaton} (v : Valid G) (L : Laws G A) where
     is : vs ++ w ∷ z ≡ word ∷ rest
     follow : Follow G A (p, X) word
 
-  seen : {p X t q r u w : ℕ} {α Xs vs : List ℕ} (z : List ℕ) → IsNonterminal G X → A.goto p X ≡ some t → First G A t Xs vs → IsRule G r → right_side G r ≡ α ++ X ∷ Xs → Leads A q α p → A.goto q (left_side G r) ≡ some u → Follow G A (q, left_side G r) w → Seen p X vs w z
+  seen : {p X t q r u w : ℕ} {α Xs vs : List ℕ} (z : List ℕ) → IsNonterminal G X → A.goto p X ≡ Some t → First G A t Xs vs → IsRule G r → right_side G r ≡ α ++ X ∷ Xs → Leads A q α p → A.goto q (left_side G r) ≡ Some u → Follow G A (q, left_side G r) w → Seen p X vs w z
   seen {p} {X} {w = w} z n g (a_word b vs' e d) i s l k f = record { word = b; rest = vs' ++ w ∷ z; is = ap (λ m. m ++ w ∷ z) e; follow = record { last = (p, X); steps = stop; read = read_of v d n g } }
   seen {p} {X} {t} {q} {r} {u} {w} {α} {Xs} z n g (no_word e ns) i s l k f =
       let one : Includes G A (p, X) (q, left_side G r) =
@@ -53,7 +52,7 @@ module _ {G : Grammar} {A : Automaton} (v : Valid G) (L : Laws G A) where
       record { word = w; rest = z; is = ap (λ m. m ++ w ∷ z) e; follow = record { last = f.last; steps = go one f.steps; read = f.read } }
 
   -- A tree followed and reduced, and then the forest beside it.
-  follow_node : {p t o w : ℕ} {σ Xs ws vs ps qs z : List ℕ} → IsRule G o → A.goto p (left_side G o) ≡ some t → (s : Seen p (left_side G o) vs w z) → Followed p σ (right_side G o) ws ps s.word s.rest → Followed t (p ∷ σ) Xs vs qs w z → Followed p σ (left_side G o ∷ Xs) (ws ++ vs) (ps ++ o ∷ qs) w z
+  follow_node : {p t o w : ℕ} {σ Xs ws vs ps qs z : List ℕ} → IsRule G o → A.goto p (left_side G o) ≡ Some t → (s : Seen p (left_side G o) vs w z) → Followed p σ (right_side G o) ws ps s.word s.rest → Followed t (p ∷ σ) Xs vs qs w z → Followed p σ (left_side G o ∷ Xs) (ws ++ vs) (ps ++ o ∷ qs) w z
   follow_node {p} {t} {o} {w} {σ} {Xs} {ws} {vs} {ps} {qs} {z} i g s x y =
       record {
         top = y.top;
@@ -69,7 +68,7 @@ module _ {G : Grammar} {A : Automaton} (v : Valid G) (L : Laws G A) where
       input : ws ++ s.word ∷ s.rest ≡ (ws ++ vs) ++ w ∷ z
       input = ap (λ l. ws ++ l) (sym s.is) ∙ sym (append_assoc ws vs (w ∷ z))
 
-  follow_forest : {Xs ws ps : List ℕ} → Forest G Xs ws ps → (α : List ℕ) {p q r u w : ℕ} (σ z : List ℕ) → IsRule G r → Has A p r (length α) → right_side G r ≡ α ++ Xs → Leads A q α p → A.goto q (left_side G r) ≡ some u → Follow G A (q, left_side G r) w → Followed p σ Xs ws ps w z
+  follow_forest : {Xs ws ps : List ℕ} → Forest G Xs ws ps → (α : List ℕ) {p q r u w : ℕ} (σ z : List ℕ) → IsRule G r → Has A p r (length α) → right_side G r ≡ α ++ Xs → Leads A q α p → A.goto q (left_side G r) ≡ Some u → Follow G A (q, left_side G r) w → Followed p σ Xs ws ps w z
   follow_forest empty α {p} σ z i h e l k f = record { top = p; below = σ; leads = here; taken_off = refl; run = halt }
   follow_forest (leaf {w = a} {Xs = Xs} b x) α {p} σ z i h e l k f =
       let m = moves_at L α Xs h e in

@@ -1,5 +1,6 @@
 -- Forests joined and split, and the root of a tree.
 use Rattle.std.proofs.Common.{◌≡◌, ℕ, List, [], ◌∷◌, ◌++◌, sym, refl, ap, ◌∙◌, subst, ap₂, append_assoc, append-nil, arith}
+use Rattle.std.proofs.lemmas.List.Elements.{All-nil, All-cons, All-head, All-tail, All-append}
 use mathlib.Core.List.{head-eq_of_cons-eq, tail-eq_of_cons-eq, nil≢cons, cons≢nil}
 use Rattle.grammar.specs.Grammar.{Grammar, IsTerminal, IsNonterminal, IsRule, AllTerminals, Valid, left_side, right_side, start}
 use Rattle.grammar.specs.Trees.{Forest, empty, leaf, node, Tree, Nullable}
@@ -52,17 +53,13 @@ split {G} (X ∷ Xs) Ys (node {r = r} {ws = ws} {ps = ps} h f g) e =
 -- Terminals are a forest of leaves, with no rule.
 pub leaves : {G : Grammar} (us : List ℕ) → AllTerminals G us → Forest G us us []
 leaves [] h = empty
-leaves (u ∷ us) h = leaf h.0 (leaves us h.1)
-
-pub terminals_append : (G : Grammar) (us vs : List ℕ) → AllTerminals G us → AllTerminals G vs → AllTerminals G (us ++ vs)
-terminals_append G [] vs a b = b
-terminals_append G (u ∷ us) vs a b = (a.0, terminals_append G us vs a.1 b)
+leaves {G} (u ∷ us) h = leaf (All-head (IsTerminal G) u us h) (leaves us (All-tail (IsTerminal G) u us h))
 
 -- Only terminals stand at the leaves.
 pub terminals_of : {G : Grammar} {Xs ws ps : List ℕ} → Forest G Xs ws ps → AllTerminals G ws
-terminals_of empty = tt
-terminals_of (leaf h f) = (h, terminals_of f)
-terminals_of {G} (node {ws = ws} {vs = vs} h f g) = terminals_append G ws vs (terminals_of f) (terminals_of g)
+terminals_of {G} empty = All-nil (IsTerminal G)
+terminals_of {G} (leaf {w = w} {ws = ws} h f) = All-cons (IsTerminal G) w ws h (terminals_of f)
+terminals_of {G} (node {ws = ws} {vs = vs} h f g) = All-append (IsTerminal G) ws vs (terminals_of f) (terminals_of g)
 
 -- A tree from a rule and a forest of its right side.
 pub tree : {G : Grammar} {r : ℕ} {ws ps : List ℕ} → IsRule G r → Forest G (right_side G r) ws ps → Tree G (left_side G r) ws (ps ++ r ∷ [])

@@ -1,9 +1,7 @@
 -- A turn of an open line ends for want of room exactly when a run over its words, and the word or the end mark, makes a 769th reduction.
-use Rattle.std.proofs.Common.{◌≡◌, ℕ, zero, suc, ◌-◌, ◌≤◌, Bool, true, false, cond, not, leb, List, [], ◌∷◌, ◌++◌, length, sym, refl, ap, ◌∙◌, subst, ⊎_elim, suc-le-suc, arith, length-append}
+use Rattle.std.proofs.Common.{◌≡◌, ℕ, zero, suc, ◌-◌, ◌≤◌, List, [], ◌∷◌, ◌++◌, length, sym, refl, ap, ◌∙◌, subst, ⊎_elim, suc-le-suc, arith, length-append, Option}
 use mathlib.Core.List.{cons≢nil}
-use mathlib.Core.Option.{Option}
 use Rattle.grammar.specs.Grammar.{Grammar, Valid}
-use Rattle.grammar.specs.Derivation.{is_terminal}
 use Rattle.grammar.specs.States.{Automaton, Laws}
 use Rattle.grammar.specs.Cells.{Exact}
 use Rattle.grammar.specs.Machine.{Run, halt, shift, reduce, FewReductions}
@@ -13,7 +11,7 @@ use Rattle.grammar.specs.declared.action.Action.TheVariants.{Reduce}
 use Rattle.grammar.proofs.Runs.{onward}
 use Rattle.grammar.proofs.MachineEnds.{Says, says, conflict_free}
 use Rattle.grammar.proofs.MachineSteps.{runs_full, runs_reduce}
-use Rattle.grammar.proofs.OpenLines.{Standing, not_after}
+use Rattle.grammar.proofs.OpenLines.{Standing, same_cause, machine_says}
 use Rattle.grammar.proofs.TakenWords.{overfull}
 
 -- With no input left no rule is noted.
@@ -21,9 +19,6 @@ at_end : {G : Grammar} {A : Automaton} {σ i qs τ j : List ℕ} → Run G A σ 
 at_end halt e = refl
 at_end (shift h x) e = absurd (cons≢nil e)
 at_end (reduce h d g x) e = absurd (cons≢nil e)
-
-same_cause : {c d : ℕ} → refused c ≡ refused d → c ≡ d
-same_cause e = cc
 
 module _ {G : Grammar} {A : Automaton} (cells : ℕ → ℕ → Option Action) (exact : Exact G A cells) where
   -- Where room for n rules is enough, no run over the word notes more.
@@ -44,10 +39,10 @@ module _ {G : Grammar} {A : Automaton} (v : Valid G) (L : Laws G A) (cells : ℕ
   many_full w e few = overfull v L cells exact l w st few (subst (λ o. Says G A (768 - length l.rules) w l.states o) e (says G A cells exact (768 - length l.rules) w l.states))
 
   judged_end_13 : (o : Ended) → after_judging l o ≡ refused 13 → o ≡ full
-  judged_end_13 stuck e = let z : ◌≡◌ {A = ℕ} 14 13 = same_cause e in absurd (omega arith)
+  judged_end_13 stuck e = cc
   judged_end_13 full e = refl
-  judged_end_13 (shifted τ ps) e = let z : ◌≡◌ {A = ℕ} 14 13 = same_cause e in absurd (omega arith)
-  judged_end_13 (accepted τ ps) e = absurd (not_after (sym e))
+  judged_end_13 (shifted τ ps) e = cc
+  judged_end_13 (accepted τ ps) e = cc
 
   -- Judging refused with 13: a run over the line's words and the end mark makes a 769th reduction.
   pub judged_13_many : judge_line G A cells l ≡ refused 13 → FewReductions G A (l.words ++ 0 ∷ []) → ⊥
@@ -60,11 +55,9 @@ module _ {G : Grammar} {A : Automaton} (v : Valid G) (L : Laws G A) (cells : ℕ
   pub judged_14_few : judge_line G A cells l ≡ refused 14 → FewReductions G A (l.words ++ 0 ∷ [])
   judged_14_few e = few_room cells exact l st 0 (judged_end_14 (runs G A cells (768 - length l.rules) 0 l.states) e)
 
-  word_end_14 : (w : ℕ) (o : Ended) (a b : Bool) → cond a (refused 11) (cond b (refused 12) (after_word l w o)) ≡ refused 14 → o ≡ full → ⊥
-  word_end_14 w o true b e f = let z : ◌≡◌ {A = ℕ} 11 14 = same_cause e in omega arith
-  word_end_14 w o false true e f = let z : ◌≡◌ {A = ℕ} 12 14 = same_cause e in omega arith
-  word_end_14 w o false false e f = let z : ◌≡◌ {A = ℕ} 13 14 = same_cause (sym (ap (after_word l w) f) ∙ e) in omega arith
+  word_end_14 : (w : ℕ) (o : Ended) → after_word l w o ≡ refused 14 → o ≡ full → ⊥
+  word_end_14 w o e f = let z : ◌≡◌ {A = ℕ} 13 14 = same_cause (sym (ap (after_word l w) f) ∙ e) in omega arith
 
   -- A word refused with 14: no run over the line's words and it makes a 769th reduction.
   pub word_14_few : (w : ℕ) → take_word G A cells l w ≡ refused 14 → FewReductions G A (l.words ++ w ∷ [])
-  word_14_few w e = few_room cells exact l st w (word_end_14 w (runs G A cells (768 - length l.rules) w l.states) (leb 256 (length l.words)) (not (is_terminal G w)) e)
+  word_14_few w e = few_room cells exact l st w (word_end_14 w (runs G A cells (768 - length l.rules) w l.states) (machine_says G A cells l w e (λ z. cc) (λ z. cc)).1)

@@ -3,13 +3,14 @@ use Rattle.std.proofs.Common.{◌≡◌, ℕ, zero, suc, ◌+◌, ◌*◌, ◌/�
 use lib.ListN.{length-replicate}
 use Rattle.std.proofs.lemmas.List.{ext_get_or, get_or_past, get_or-replicate, get_or-set_other}
 use Rattle.std.proofs.lemmas.Bool.{and_parts, and_from, ltb-true, lt-ltb, both_ways, false≢true, cases_lt, cases_eq, eq-eqb}
+use Rattle.std.proofs.lemmas.Option.{get_or_from_slice_get}
 use Rattle.grammar.specs.Grammar.{Grammar, IsRule, Valid, left_side, right_side}
 use Rattle.grammar.specs.Items.{Same, CodeAt, Closure, given, begun, Completes, origin, behind, Move, Waits}
 use Rattle.grammar.specs.Outcome.{Within}
 use Rattle.grammar.specs.ItemLists.{items_of, In, origin_list, Laid, ClosureAt, CompletesAt, BehindAt, WaitsAt}
 use Rattle.grammar.proofs.Agreement.{bool_iff}
 use Rattle.grammar.proofs.Completion.{equal_sets, origin_is, moved_from, moved_onto}
-use Rattle.grammar.proofs.Codes.{at_get_d, get_d_at, dot_below}
+use Rattle.grammar.proofs.Codes.{code_read, dot_below}
 
 -- An item of the set is a dot from 0 to 8 and a number in the list.
 pub record Held (xs : List Bool) (r d : ℕ) : Type 0 where
@@ -80,10 +81,10 @@ origin_items =
 module _ (G : Grammar) (V : Valid G) (W : Within G) (lefts codes : List ℕ) (L : Laid G lefts codes) where
   -- The code behind a dot, in the list and in the grammar.
   pub code_of : (r d X : ℕ) → CodeAt G r d X → get_or codes (9 * r + d) 0 ≡ X
-  code_of r d X e = L.code r d (omega (arith, dot_below G V W r d X e)) ∙ at_get_d (right_side G r) d X e
+  code_of r d X e = L.code r d (omega (arith, dot_below G V W r d X e)) ∙ get_or_from_slice_get (right_side G r) d X 0 e
 
   pub of_code : (r d X : ℕ) → d < 9 → 1 ≤ X → get_or codes (9 * r + d) 0 ≡ X → CodeAt G r d X
-  of_code r d X l low e = get_d_at (right_side G r) d X low (sym (L.code r d l) ∙ e)
+  of_code r d X l low e = code_read (right_side G r) d X low (sym (L.code r d l) ∙ e)
 
   -- The last dot has no code behind it.
   pub no_code : (i r : ℕ) → i ≡ 9 * r + 8 → 1 ≤ get_or codes i 0 → ⊥

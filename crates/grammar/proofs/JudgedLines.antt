@@ -1,6 +1,5 @@
 -- An open line is judged good exactly when its words are a sentence of at most 768 derivation steps.
-use Rattle.std.proofs.Common.{◌≡◌, ℕ, ◌+◌, ◌-◌, ◌<◌, ◌≤◌, List, [], ◌∷◌, ◌++◌, reverse, length, sym, refl, ap, ◌∙◌, subst, append_assoc, append-nil, arith, length-append}
-use mathlib.Core.Option.{Option}
+use Rattle.std.proofs.Common.{◌≡◌, ℕ, ◌+◌, ◌-◌, ◌<◌, ◌≤◌, List, [], ◌∷◌, ◌++◌, reverse, length, sym, refl, ap, ◌∙◌, subst, append_assoc, append-nil, arith, length-append, Option}
 use lib.ListN.{length-reverse}
 use Rattle.grammar.specs.Grammar.{Grammar, Valid}
 use Rattle.grammar.specs.Derivation.{Derives, ShortSentence}
@@ -12,7 +11,7 @@ use Rattle.grammar.specs.declared.action.Action.{Action}
 use Rattle.grammar.proofs.Runs.{then_accepts, along}
 use Rattle.grammar.proofs.Sentences.{accepts_derivation, derivation_accepted}
 use Rattle.grammar.proofs.MachineEnds.{Says, says, Agrees, agrees, conflict_free}
-use Rattle.grammar.proofs.OpenLines.{Standing, same_line, not_after}
+use Rattle.grammar.proofs.OpenLines.{Standing, same_line}
 
 module _ {G : Grammar} {A : Automaton} (v : Valid G) (L : Laws G A) (cells : ℕ → ℕ → Option Action) (exact : Exact G A cells) (l : Line) (st : Standing G A l) where
   -- A derivation of the line's words and more is accepted from where the line stands; the line's rules are the last of it.
@@ -30,9 +29,9 @@ module _ {G : Grammar} {A : Automaton} (v : Valid G) (L : Laws G A) (cells : ℕ
       omega arith
 
   ended_good : {m : Line} (o : Ended) → Says G A (768 - length l.rules) 0 l.states o → after_judging l o ≡ after m → AcceptsWords G A l.words m.rules × (length m.rules ≤ 768)
-  ended_good stuck s e = absurd (not_after e)
-  ended_good full s e = absurd (not_after e)
-  ended_good (shifted τ ps) s e = absurd (not_after e)
+  ended_good stuck s e = cc
+  ended_good full s e = cc
+  ended_good (shifted τ ps) s e = cc
   ended_good (accepted τ ps) s e =
       let short : length (l.rules ++ ps) ≤ 768 = rw length-append (omega (arith, s.2, st.few_rules)) in
       subst (λ m. AcceptsWords G A l.words m.rules × (length m.rules ≤ 768)) (same_line e) (then_accepts (st.run (0 ∷ [])) s.1, short)

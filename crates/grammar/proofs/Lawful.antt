@@ -1,6 +1,5 @@
 -- The numbered states keep the laws of an automaton.
-use Rattle.std.proofs.Common.{◌≡◌, ℕ, zero, suc, ◌<◌, Bool, true, sym, refl, subst, arith}
-use mathlib.Core.Option.{some}
+use Rattle.std.proofs.Common.{◌≡◌, ℕ, zero, suc, ◌<◌, Bool, true, sym, refl, subst, arith, Some}
 use Rattle.std.proofs.lemmas.Bool.{false≢true}
 use Rattle.grammar.specs.Grammar.{Grammar}
 use Rattle.grammar.specs.Items.{Items, CodeAt, Closure, given, begun, Completes, origin, behind}
@@ -24,16 +23,16 @@ module _ (G : Grammar) (has : ℕ → ℕ → ℕ → Bool) where
   made_moved s S X c r (suc d) h = moved (c.whole r (suc d) (given h))
 
 module _ (G : Grammar) (n : ℕ) (A : Automaton) (N : Numbered G n A) where
-  law_moves : (s r d X : ℕ) → A.has s r d ≡ true → CodeAt G r d X → (t : ℕ) × (A.goto s X ≡ some t) × (A.has t r (suc d) ≡ true)
+  law_moves : (s r d X : ℕ) → A.has s r d ≡ true → CodeAt G r d X → (t : ℕ) × (A.goto s X ≡ Some t) × (A.has t r (suc d) ≡ true)
   law_moves s r d X h k =
       let m = N.moves s X (is_state G n A N s r d h) (record { rule = r; dot = d; has = h; code = k }) in
       (m.0, m.1, m.3.whole r (suc d) (given (moved_onto G (A.has s) X r d h k)))
 
-  law_came : (s t X r d : ℕ) → A.goto s X ≡ some t → A.has t r (suc d) ≡ true → CodeAt G r d X × (A.has s r d ≡ true)
+  law_came : (s t X r d : ℕ) → A.goto s X ≡ Some t → A.has t r (suc d) ≡ true → CodeAt G r d X × (A.has s r d ≡ true)
   law_came s t X r d e h =
       let p = moved_from G (A.has s) X r d (was_given G ((goes G n A N s X t e).move.sound r (suc d) h)) in (p.1, p.0)
 
-  law_target : (s t X : ℕ) → A.goto s X ≡ some t → (r d : ℕ) × (A.has t r (suc d) ≡ true)
+  law_target : (s t X : ℕ) → A.goto s X ≡ Some t → (r d : ℕ) × (A.has t r (suc d) ≡ true)
   law_target s t X e =
       let g = goes G n A N s X t e in
       let w = g.waits in

@@ -1,7 +1,6 @@
 -- The machine with its limits: what its end says of runs, and that it goes along with whatever is accepted.
-use Rattle.std.proofs.Common.{◌≡◌, ℕ, zero, suc, ◌<◌, ◌≤◌, List, [], ◌∷◌, length, drop, sym, refl, ap, ◌∙◌, subst, suc-le-suc, arith}
+use Rattle.std.proofs.Common.{◌≡◌, ℕ, zero, suc, ◌<◌, ◌≤◌, List, [], ◌∷◌, length, drop, sym, refl, ap, subst, suc-le-suc, arith, Option, Some, None}
 use mathlib.Core.List.{cons≢nil}
-use mathlib.Core.Option.{Option, some, none, some-injective}
 use Rattle.grammar.specs.Grammar.{Grammar, left_side, right_side}
 use Rattle.grammar.specs.States.{Automaton}
 use Rattle.grammar.specs.Cells.{Holds, ConflictFree, Exact}
@@ -26,7 +25,7 @@ module _ (G : Grammar) (A : Automaton) where
   Agrees n i qs (accepted τ ps) = i ≡ []
 
   module _ (w s r n : ℕ) (σ : List ℕ) (h : Holds G A s w (Reduce r)) where
-    says_noted : (q t : ℕ) (ρ : List ℕ) → drop (length (right_side G r)) (s ∷ σ) ≡ q ∷ ρ → A.goto q (left_side G r) ≡ some t → (o : Ended) → Says n w (t ∷ q ∷ ρ) o → Says (suc n) w (s ∷ σ) (noted r o)
+    says_noted : (q t : ℕ) (ρ : List ℕ) → drop (length (right_side G r)) (s ∷ σ) ≡ q ∷ ρ → A.goto q (left_side G r) ≡ Some t → (o : Ended) → Says n w (t ∷ q ∷ ρ) o → Says (suc n) w (s ∷ σ) (noted r o)
     says_noted q t ρ d g stuck x = tt
     says_noted q t ρ d g full x = λ k. let y = x k in (r ∷ y.0, y.1, y.2, y.3, Run.reduce h d g y.4, y.5, ap suc y.6)
     says_noted q t ρ d g (shifted τ ps) x = (λ k. Run.reduce h d g (x.0 k), suc-le-suc x.1)
@@ -34,8 +33,8 @@ module _ (G : Grammar) (A : Automaton) where
 
     module _ (next : List ℕ → Ended) (says_next : (τ : List ℕ) → Says n w τ (next τ)) where
       says_put : (q : ℕ) (ρ : List ℕ) → drop (length (right_side G r)) (s ∷ σ) ≡ q ∷ ρ → (o : Option ℕ) → A.goto q (left_side G r) ≡ o → Says (suc n) w (s ∷ σ) (put_on next r (q ∷ ρ) o)
-      says_put q ρ d none g = tt
-      says_put q ρ d (some t) g = says_noted q t ρ d g (next (t ∷ q ∷ ρ)) (says_next (t ∷ q ∷ ρ))
+      says_put q ρ d None g = tt
+      says_put q ρ d (Some t) g = says_noted q t ρ d g (next (t ∷ q ∷ ρ)) (says_next (t ∷ q ∷ ρ))
 
       says_on : (l : List ℕ) → drop (length (right_side G r)) (s ∷ σ) ≡ l → Says (suc n) w (s ∷ σ) (go_on G A next r l)
       says_on [] d = tt
@@ -55,13 +54,13 @@ no_end (reduce h d g x) e = cons≢nil e
 
 module _ (G : Grammar) (A : Automaton) (cells : ℕ → ℕ → Option Action) (exact : Exact G A cells) where
   pub conflict_free : ConflictFree G A
-  conflict_free s w a b h k = some-injective _ _ (sym ((exact s w a).1 h) ∙ (exact s w b).1 k)
+  conflict_free s w a b h k = cc ((exact s w a).1 h, (exact s w b).1 k)
 
   says_act : (w s n : ℕ) (σ : List ℕ) (f : ℕ → Ended) → ((r : ℕ) → Holds G A s w (Reduce r) → Says G A n w (s ∷ σ) (f r)) → (o : Option Action) → cells s w ≡ o → Says G A n w (s ∷ σ) (act (s ∷ σ) f o)
-  says_act w s n σ f x none e = tt
-  says_act w s n σ f x (some (Shift t)) e = (λ k. Run.shift ((exact s w (Shift t)).0 e) halt, omega arith)
-  says_act w s n σ f x (some (Reduce r)) e = x r ((exact s w (Reduce r)).0 e)
-  says_act w s n σ f x (some Accept) e = (halt, Accepts.accept ((exact s w Accept).0 e), omega arith)
+  says_act w s n σ f x None e = tt
+  says_act w s n σ f x (Some (Shift t)) e = (λ k. Run.shift ((exact s w (Shift t)).0 e) halt, omega arith)
+  says_act w s n σ f x (Some (Reduce r)) e = x r ((exact s w (Reduce r)).0 e)
+  says_act w s n σ f x (Some Accept) e = (halt, Accepts.accept ((exact s w Accept).0 e), omega arith)
 
   pub says : (n w : ℕ) (σ : List ℕ) → Says G A n w σ (runs G A cells n w σ)
   unfolding runs

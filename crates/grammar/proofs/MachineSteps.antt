@@ -1,6 +1,5 @@
 -- The steps of the machine with its limits, one for each content of a cell.
-use Rattle.std.proofs.Common.{◌≡◌, ℕ, zero, suc, List, [], ◌∷◌, ◌++◌, length, drop, refl, ap, ◌∙◌}
-use mathlib.Core.Option.{Option, some, none}
+use Rattle.std.proofs.Common.{◌≡◌, ℕ, zero, suc, List, [], ◌∷◌, ◌++◌, length, drop, refl, ap, ◌∙◌, Option, Some, None}
 use Rattle.grammar.specs.Grammar.{Grammar, left_side, right_side}
 use Rattle.grammar.specs.States.{Automaton}
 use Rattle.grammar.specs.Line.{Ended, stuck, full, shifted, accepted, noted, act, put_on, go_on, runs}
@@ -14,20 +13,20 @@ module _ (G : Grammar) (A : Automaton) (cells : ℕ → ℕ → Option Action) (
   at_cell zero c o e x = ap (act (s ∷ σ) (λ r. full)) e ∙ x (λ r. full)
   at_cell (suc n) c o e x = ap (act (s ∷ σ) (λ r. go_on G A (runs G A cells n w) r (drop (length (right_side G r)) (s ∷ σ)))) e ∙ x (λ r. go_on G A (runs G A cells n w) r (drop (length (right_side G r)) (s ∷ σ)))
 
-  pub runs_none : (n : ℕ) → cells s w ≡ none → runs G A cells n w (s ∷ σ) ≡ stuck
-  runs_none n e = at_cell n none stuck e (λ f. refl)
+  pub runs_none : (n : ℕ) → cells s w ≡ None → runs G A cells n w (s ∷ σ) ≡ stuck
+  runs_none n e = at_cell n None stuck e (λ f. refl)
 
-  pub runs_shift : (n t : ℕ) → cells s w ≡ some (Shift t) → runs G A cells n w (s ∷ σ) ≡ shifted (t ∷ s ∷ σ) []
-  runs_shift n t e = at_cell n (some (Shift t)) (shifted (t ∷ s ∷ σ) []) e (λ f. refl)
+  pub runs_shift : (n t : ℕ) → cells s w ≡ Some (Shift t) → runs G A cells n w (s ∷ σ) ≡ shifted (t ∷ s ∷ σ) []
+  runs_shift n t e = at_cell n (Some (Shift t)) (shifted (t ∷ s ∷ σ) []) e (λ f. refl)
 
-  pub runs_accept : (n : ℕ) → cells s w ≡ some Accept → runs G A cells n w (s ∷ σ) ≡ accepted (s ∷ σ) []
-  runs_accept n e = at_cell n (some Accept) (accepted (s ∷ σ) []) e (λ f. refl)
+  pub runs_accept : (n : ℕ) → cells s w ≡ Some Accept → runs G A cells n w (s ∷ σ) ≡ accepted (s ∷ σ) []
+  runs_accept n e = at_cell n (Some Accept) (accepted (s ∷ σ) []) e (λ f. refl)
 
-  pub runs_full : (r : ℕ) → cells s w ≡ some (Reduce r) → runs G A cells 0 w (s ∷ σ) ≡ full
+  pub runs_full : (r : ℕ) → cells s w ≡ Some (Reduce r) → runs G A cells 0 w (s ∷ σ) ≡ full
   unfolding runs
   runs_full r e = ap (act (s ∷ σ) (λ r. full)) e
 
-  pub runs_reduce : (n r q t : ℕ) (ρ : List ℕ) → cells s w ≡ some (Reduce r) → drop (length (right_side G r)) (s ∷ σ) ≡ q ∷ ρ → A.goto q (left_side G r) ≡ some t → runs G A cells (suc n) w (s ∷ σ) ≡ noted r (runs G A cells n w (t ∷ q ∷ ρ))
+  pub runs_reduce : (n r q t : ℕ) (ρ : List ℕ) → cells s w ≡ Some (Reduce r) → drop (length (right_side G r)) (s ∷ σ) ≡ q ∷ ρ → A.goto q (left_side G r) ≡ Some t → runs G A cells (suc n) w (s ∷ σ) ≡ noted r (runs G A cells n w (t ∷ q ∷ ρ))
   unfolding runs
   runs_reduce n r q t ρ e d g = ap (act (s ∷ σ) (λ r. go_on G A (runs G A cells n w) r (drop (length (right_side G r)) (s ∷ σ)))) e ∙ ap (go_on G A (runs G A cells n w) r) d ∙ ap (put_on (runs G A cells n w) r (q ∷ ρ)) g
 

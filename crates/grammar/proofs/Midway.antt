@@ -1,6 +1,5 @@
 -- The machine in the midst of a turn: what a loop over its reductions keeps, and where the loop ends.
-use Rattle.std.proofs.Common.{◌≡◌, ℕ, suc, ◌+◌, ◌-◌, ◌<◌, ◌≤◌, List, [], ◌∷◌, ◌++◌, length, drop, sym, refl, ap, ◌∙◌, subst, append_assoc, append-nil, add-zero, arith, length-append}
-use mathlib.Core.Option.{Option, some, none}
+use Rattle.std.proofs.Common.{◌≡◌, ℕ, suc, ◌+◌, ◌-◌, ◌<◌, ◌≤◌, List, [], ◌∷◌, ◌++◌, length, drop, sym, refl, ap, ◌∙◌, subst, append_assoc, append-nil, add-zero, arith, length-append, Option, Some, None}
 use Rattle.grammar.specs.Grammar.{Grammar, left_side, right_side}
 use Rattle.grammar.specs.States.{Automaton, Laws}
 use Rattle.grammar.specs.Cells.{Exact}
@@ -25,7 +24,7 @@ pub record Reduction (G : Grammar) (A : Automaton) (r : ℕ) (σ : List ℕ) : T
   pub below : List ℕ
   pub to : ℕ
   pub taken_off : drop (length (right_side G r)) σ ≡ base ∷ below
-  pub move : A.goto base (left_side G r) ≡ some to
+  pub move : A.goto base (left_side G r) ≡ Some to
 
 -- A stack is never empty.
 pub record Top (σ : List ℕ) : Type 0 where
@@ -55,27 +54,27 @@ module _ {G : Grammar} {A : Automaton} (L : Laws G A) (cells : ℕ → ℕ → O
 
   -- The end of the turn, by what the cell of the top holds.
   module _ {ps σ : List ℕ} {s : ℕ} (m : Midway G A cells l w ps (s ∷ σ)) where
-    pub midway_none : cells s w ≡ none → runs G A cells (768 - length l.rules) w l.states ≡ stuck
+    pub midway_none : cells s w ≡ None → runs G A cells (768 - length l.rules) w l.states ≡ stuck
     midway_none e = m.same ∙ ap (notes ps) (runs_none G A cells w s σ (768 - (length l.rules + length ps)) e) ∙ notes_stuck ps
 
-    pub midway_shift : (t : ℕ) → cells s w ≡ some (Shift t) → runs G A cells (768 - length l.rules) w l.states ≡ shifted (t ∷ s ∷ σ) ps
+    pub midway_shift : (t : ℕ) → cells s w ≡ Some (Shift t) → runs G A cells (768 - length l.rules) w l.states ≡ shifted (t ∷ s ∷ σ) ps
     midway_shift t e = m.same ∙ ap (notes ps) (runs_shift G A cells w s σ (768 - (length l.rules + length ps)) t e) ∙ notes_shifted ps (t ∷ s ∷ σ)
 
-    pub midway_accept : cells s w ≡ some Accept → runs G A cells (768 - length l.rules) w l.states ≡ accepted (s ∷ σ) ps
+    pub midway_accept : cells s w ≡ Some Accept → runs G A cells (768 - length l.rules) w l.states ≡ accepted (s ∷ σ) ps
     midway_accept e = m.same ∙ ap (notes ps) (runs_accept G A cells w s σ (768 - (length l.rules + length ps)) e) ∙ notes_accepted ps (s ∷ σ)
 
-    pub midway_full : (r : ℕ) → cells s w ≡ some (Reduce r) → length l.rules + length ps ≡ 768 → runs G A cells (768 - length l.rules) w l.states ≡ full
+    pub midway_full : (r : ℕ) → cells s w ≡ Some (Reduce r) → length l.rules + length ps ≡ 768 → runs G A cells (768 - length l.rules) w l.states ≡ full
     midway_full r e h =
         let z : 768 - (length l.rules + length ps) ≡ 0 = omega arith in
         m.same ∙ ap (λ n. notes ps (runs G A cells n w (s ∷ σ))) z ∙ ap (notes ps) (runs_full G A cells w s σ r e) ∙ notes_full ps
 
-    pub midway_reduction : (r : ℕ) → cells s w ≡ some (Reduce r) → Reduction G A r (s ∷ σ)
+    pub midway_reduction : (r : ℕ) → cells s w ≡ Some (Reduce r) → Reduction G A r (s ∷ σ)
     midway_reduction r e =
         let c = can_reduce L (stands_at L l.words (m.run [])).spells ((exact s w (Reduce r)).0 e) in
         record { base = c.0; below = c.1; to = c.2; taken_off = c.3; move = c.4 }
 
     -- One reduction more.
-    pub midway_reduce : (r q t : ℕ) (ρ : List ℕ) → cells s w ≡ some (Reduce r) → length l.rules + length ps < 768 → drop (length (right_side G r)) (s ∷ σ) ≡ q ∷ ρ → A.goto q (left_side G r) ≡ some t → Midway G A cells l w (ps ++ r ∷ []) (t ∷ q ∷ ρ)
+    pub midway_reduce : (r q t : ℕ) (ρ : List ℕ) → cells s w ≡ Some (Reduce r) → length l.rules + length ps < 768 → drop (length (right_side G r)) (s ∷ σ) ≡ q ∷ ρ → A.goto q (left_side G r) ≡ Some t → Midway G A cells l w (ps ++ r ∷ []) (t ∷ q ∷ ρ)
     midway_reduce r q t ρ e h d g =
         let n = 768 - (length l.rules + length (ps ++ r ∷ [])) in
         let z : 768 - (length l.rules + length ps) ≡ suc n = rw length-append (omega arith) in

@@ -1,6 +1,5 @@
 -- The moves of the numbered states.
-use Rattle.std.proofs.Common.{◌≡◌, ℕ, zero, suc, ◌<◌, true, sym, ◌∙◌, subst, inl, inr, arith}
-use mathlib.Core.Option.{some, some-injective}
+use Rattle.std.proofs.Common.{◌≡◌, ℕ, zero, suc, ◌<◌, true, subst, inl, inr, arith, Some}
 use Rattle.std.proofs.lemmas.Bool.{cases_lt, both_ways}
 use Rattle.grammar.specs.Grammar.{Grammar}
 use Rattle.grammar.specs.Items.{Items, Completes, Move, Waits, origin}
@@ -19,11 +18,11 @@ pub record Kernel (G : Grammar) (S : Items) : Type 0 where
   pub completes : Completes G items S
 
 module _ (G : Grammar) (n : ℕ) (A : Automaton) (N : Numbered G n A) where
-  pub goes : (s X t : ℕ) → A.goto s X ≡ some t → Goes G n A s X t
+  pub goes : (s X t : ℕ) → A.goto s X ≡ Some t → Goes G n A s X t
   goes s X t e =
       let o = N.only s X t e in
       let m = N.moves s X o.0 o.1 in
-      let same : m.0 ≡ t = some-injective m.0 t (sym m.1 ∙ e) in
+      let same : m.0 ≡ t = cc m.1 in
       record { from = o.0; to = subst (λ u. u < n) same m.2; waits = o.1; move = subst (λ u. Move G (A.has s) X (A.has u)) same m.3 }
 
   -- The states are below n: a number from n on has no item.

@@ -1,7 +1,6 @@
 -- A grammar's states are numbered in one way.
-use Rattle.std.proofs.Common.{◌≡◌, ℕ, zero, suc, ◌<◌, ◌≤◌, sym, ap, ◌∙◌, subst, inl, inr, arith}
+use Rattle.std.proofs.Common.{◌≡◌, ℕ, zero, suc, ◌<◌, ◌≤◌, sym, ap, ◌∙◌, subst, inl, inr, arith, Option, Some}
 use mathlib.Core.Path.{fun_ext}
-use mathlib.Core.Option.{Option, some}
 use Rattle.std.proofs.lemmas.Bool.{cases_lt, cases_eq, cases_order}
 use Rattle.grammar.specs.Grammar.{Grammar}
 use Rattle.grammar.specs.Items.{Move, Waits}
@@ -21,11 +20,11 @@ module _ (G : Grammar) where
   -- Where the states that a move leaves are the same, the other numbering moves too, to the same set.
   record Follows (m : ℕ) (A B : Automaton) (s X t : ℕ) : Type 0 where
     to : ℕ
-    move : B.goto s X ≡ some to
+    move : B.goto s X ≡ Some to
     low : to < m
     same : A.has t ≡ B.has to
 
-  follows : (n m : ℕ) (A B : Automaton) → Numbered G n A → Numbered G m B → (s X t : ℕ) → A.goto s X ≡ some t → s < m → A.has s ≡ B.has s → Follows m A B s X t
+  follows : (n m : ℕ) (A B : Automaton) → Numbered G n A → Numbered G m B → (s X t : ℕ) → A.goto s X ≡ Some t → s < m → A.has s ≡ B.has s → Follows m A B s X t
   follows n m A B N M s X t e l same =
       let g = goes G n A N s X t e in
       let k = M.moves s X l (subst (λ S. Waits G S X) same g.waits) in
@@ -50,7 +49,7 @@ module _ (G : Grammar) where
             elim (order p.state p.code q.state q.code) [
               | at_once e f ↦
                   (let g = goes G n A N p.state p.code (suc k) p.here in
-                  let b : B.goto p.state p.code ≡ some (suc k) = ap (λ s. B.goto s p.code) e ∙ ap (λ X. B.goto q.state X) f ∙ q.here in
+                  let b : B.goto p.state p.code ≡ Some (suc k) = ap (λ s. B.goto s p.code) e ∙ ap (λ X. B.goto q.state X) f ∙ q.here in
                   let u = goes G m B M p.state p.code (suc k) b in
                   one_completion G (subst (λ S. Move G S p.code (A.has (suc k))) (alike p.state p.lower) g.move) u.move)
               | before early ↦ absurd (not_later n m A B N M (suc k) l h alike p q early)
@@ -88,13 +87,13 @@ module _ (G : Grammar) where
           | inr g ↦ (let e = one_count in equal_sets (A.has s) (B.has s) λ r d. N.outside s r d g ∙ sym (M.outside s r d (omega arith)))
         ]
 
-  goto_onto : (n m : ℕ) (A B : Automaton) → Numbered G n A → Numbered G m B → (s X t : ℕ) → A.goto s X ≡ some t → B.goto s X ≡ some t
+  goto_onto : (n m : ℕ) (A B : Automaton) → Numbered G n A → Numbered G m B → (s X t : ℕ) → A.goto s X ≡ Some t → B.goto s X ≡ Some t
   goto_onto n m A B N M s X t e =
       let g = goes G n A N s X t e in
       let count = one_count n m A B N M in
       let f = follows n m A B N M s X t e (omega (arith, g.from)) (one_has n m A B N M s) in
       let same : f.to ≡ t = M.apart f.to t f.low (omega (arith, g.to)) (same_items (sym f.same ∙ one_has n m A B N M t)) in
-      f.move ∙ ap {B = Option ℕ} some same
+      f.move ∙ ap {B = Option ℕ} Some same
 
 pub one_numbering : OneNumbering
 one_numbering G n m A B N M = (

@@ -1,6 +1,5 @@
 -- At most one outcome fits a grammar.
-use Rattle.std.proofs.Common.{◌≡◌, ℕ, ◌≤◌, sym, ap, ◌∙◌, subst, subst₂, inl, inr, arith}
-use mathlib.Core.Option.{Option, some-injective}
+use Rattle.std.proofs.Common.{◌≡◌, ℕ, ◌≤◌, ap, subst, subst₂, inl, inr, arith, Option}
 use Rattle.std.proofs.lemmas.Bool.{cases_order}
 use Rattle.grammar.specs.Grammar.{Grammar, IsRule}
 use Rattle.grammar.specs.States.{Automaton, Numbered, Crowded}
@@ -39,7 +38,7 @@ module _ (G : Grammar) where
   -- Exact cells have no conflict.
   no_conflict : {A : Automaton} {cells : ℕ → ℕ → Option Action} {s w : ℕ} {a b : Action} → Exact G A cells → FirstConflict G A s w a b → ⊥
   no_conflict {cells = cells} {s = s} {w = w} {a = a} {b = b} exact F =
-      let e : a ≡ b = some-injective a b (sym ((exact s w a).1 F.first) ∙ (exact s w b).1 F.second) in
+      let e : a ≡ b = cc ((exact s w a).1 F.first, (exact s w b).1 F.second) in
       let r : rank a ≡ rank b = ap rank e in
       omega (arith, F.order)
 

@@ -1,8 +1,7 @@
 -- What turns of an open line say beyond being taken or judged good: 14 that no sentence goes on so, 13 that there is a 769th reduction.
-use Rattle.std.proofs.Common.{◌≡◌, ℕ, ◌-◌, Bool, true, false, cond, not, leb, List, [], ◌∷◌, ◌++◌, length, sym, refl, ◌∙◌, subst, append_assoc, append-nil, arith}
-use mathlib.Core.Option.{Option}
+use Rattle.std.proofs.Common.{◌≡◌, ℕ, ◌-◌, List, [], ◌∷◌, ◌++◌, length, sym, refl, ◌∙◌, subst, append_assoc, append-nil, arith, Option}
 use Rattle.grammar.specs.Grammar.{Grammar, Valid}
-use Rattle.grammar.specs.Derivation.{Derives, ShortSentence, Sentence, Begins, is_terminal}
+use Rattle.grammar.specs.Derivation.{Derives, ShortSentence, Sentence, Begins}
 use Rattle.grammar.specs.States.{Automaton, Laws}
 use Rattle.grammar.specs.Cells.{Exact}
 use Rattle.grammar.specs.Machine.{Run, FewReductions}
@@ -11,12 +10,9 @@ use Rattle.grammar.specs.declared.action.Action.{Action}
 use Rattle.grammar.proofs.Runs.{most_rules}
 use Rattle.grammar.proofs.AcceptedPrefixes.{no_middle}
 use Rattle.grammar.proofs.MachineEnds.{Says, says, Agrees, agrees, conflict_free}
-use Rattle.grammar.proofs.OpenLines.{Standing, standing, not_after}
+use Rattle.grammar.proofs.OpenLines.{Standing, standing, not_after, same_cause, machine_says}
 use Rattle.grammar.proofs.JudgedLines.{rest, rest_end, short_judged}
 use Rattle.grammar.proofs.TakenWords.{overfull, words_after}
-
-same_cause : {c d : ℕ} → refused c ≡ refused d → c ≡ d
-same_cause e = cc
 
 module _ {G : Grammar} {A : Automaton} (cells : ℕ → ℕ → Option Action) (exact : Exact G A cells) where
   -- Every run over all of a line's words notes as many rules as the line has.
@@ -38,7 +34,7 @@ module _ {G : Grammar} {A : Automaton} (v : Valid G) (L : Laws G A) (cells : ℕ
   ended_none qs stuck x e = x
   ended_none qs full x e = let z : ◌≡◌ {A = ℕ} 13 14 = same_cause e in omega arith
   ended_none qs (shifted τ ps) x e = x refl
-  ended_none qs (accepted τ ps) x e = not_after (sym e)
+  ended_none qs (accepted τ ps) x e = cc
 
   -- Judging refused with 14: the words are no sentence.
   pub judged_14 : judge_line G A cells l ≡ refused 14 → Sentence G l.words → ⊥
@@ -51,31 +47,27 @@ module _ {G : Grammar} {A : Automaton} (v : Valid G) (L : Laws G A) (cells : ℕ
   pub judged_13 : judge_line G A cells l ≡ refused 13 → ShortSentence G l.words → ⊥
   judged_13 e d = not_after (sym e ∙ (short_judged v L cells exact l st d).1)
 
-  word_none : (w : ℕ) (z qs : List ℕ) (o : Ended) (a b : Bool) → Agrees G A (768 - length l.rules) (z ++ 0 ∷ []) qs o → cond a (refused 11) (cond b (refused 12) (after_word l w o)) ≡ refused 14 → ⊥
-  word_none w z qs o true b x e = let n : ◌≡◌ {A = ℕ} 11 14 = same_cause e in omega arith
-  word_none w z qs o false true x e = let n : ◌≡◌ {A = ℕ} 12 14 = same_cause e in omega arith
-  word_none w z qs stuck false false x e = x
-  word_none w z qs full false false x e = let n : ◌≡◌ {A = ℕ} 13 14 = same_cause e in omega arith
-  word_none w z qs (shifted τ ps) false false x e = not_after (sym e)
-  word_none w z qs (accepted τ ps) false false x e = no_middle z 0 [] (sym x)
+  word_none : (w : ℕ) (z qs : List ℕ) (o : Ended) → Agrees G A (768 - length l.rules) (z ++ 0 ∷ []) qs o → after_word l w o ≡ refused 14 → ⊥
+  word_none w z qs stuck x e = x
+  word_none w z qs full x e = let n : ◌≡◌ {A = ℕ} 13 14 = same_cause e in omega arith
+  word_none w z qs (shifted τ ps) x e = cc
+  word_none w z qs (accepted τ ps) x e = no_middle z 0 [] (sym x)
 
   -- A word refused with 14: no sentence begins with the line's words and it.
   pub word_14 : (w : ℕ) → take_word G A cells l w ≡ refused 14 → Begins G (l.words ++ w ∷ []) → ⊥
   word_14 w e b =
       let n = 768 - length l.rules in
       let r = rest v L cells exact l st (w ∷ b.0) b.1.0 (subst (λ ws. Derives G b.1.0 ws) (append_assoc l.words (w ∷ []) b.0) b.1.1) in
-      word_none w b.0 r.0 (runs G A cells n w l.states) (leb 256 (length l.words)) (not (is_terminal G w)) (agrees G A cells exact n r.2) e
+      word_none w b.0 r.0 (runs G A cells n w l.states) (agrees G A cells exact n r.2) (machine_says G A cells l w e (λ z. cc) (λ z. cc)).1
 
-  word_full : (w : ℕ) (o : Ended) (a b : Bool) → Says G A (768 - length l.rules) w l.states o → cond a (refused 11) (cond b (refused 12) (after_word l w o)) ≡ refused 13 → FewReductions G A (l.words ++ w ∷ []) → ⊥
-  word_full w o true b s e few = let n : ◌≡◌ {A = ℕ} 11 13 = same_cause e in omega arith
-  word_full w o false true s e few = let n : ◌≡◌ {A = ℕ} 12 13 = same_cause e in omega arith
-  word_full w stuck false false s e few = let n : ◌≡◌ {A = ℕ} 14 13 = same_cause e in omega arith
-  word_full w full false false s e few = overfull v L cells exact l w st few s
-  word_full w (shifted τ ps) false false s e few = not_after (sym e)
-  word_full w (accepted τ ps) false false s e few = let n : ◌≡◌ {A = ℕ} 14 13 = same_cause e in omega arith
+  word_full : (w : ℕ) (o : Ended) → Says G A (768 - length l.rules) w l.states o → after_word l w o ≡ refused 13 → FewReductions G A (l.words ++ w ∷ []) → ⊥
+  word_full w stuck s e few = let n : ◌≡◌ {A = ℕ} 14 13 = same_cause e in omega arith
+  word_full w full s e few = overfull v L cells exact l w st few s
+  word_full w (shifted τ ps) s e few = cc
+  word_full w (accepted τ ps) s e few = let n : ◌≡◌ {A = ℕ} 14 13 = same_cause e in omega arith
 
   -- A word refused with 13: a run over the line's words and it makes a 769th reduction.
   pub word_13 : (w : ℕ) → take_word G A cells l w ≡ refused 13 → FewReductions G A (l.words ++ w ∷ []) → ⊥
   word_13 w e few =
       let n = 768 - length l.rules in
-      word_full w (runs G A cells n w l.states) (leb 256 (length l.words)) (not (is_terminal G w)) (says G A cells exact n w l.states) e few
+      word_full w (runs G A cells n w l.states) (says G A cells exact n w l.states) (machine_says G A cells l w e (λ z. cc) (λ z. cc)).1 few

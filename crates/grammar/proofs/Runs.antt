@@ -1,22 +1,12 @@
 -- Runs of the machine, one after another, and that they agree where no cell has two actions.
-use Rattle.std.proofs.Common.{◌≡◌, ℕ, ◌≤◌, ◌⊎◌, List, [], ◌∷◌, ◌++◌, length, drop, sym, refl, ap, ◌∙◌, subst, ap₂, inl, inr, ⊎_elim, append-nil, suc-le-suc, arith}
+use Rattle.std.proofs.Common.{◌≡◌, ℕ, ◌≤◌, ◌⊎◌, List, [], ◌∷◌, ◌++◌, length, drop, sym, refl, ap, ◌∙◌, subst, ap₂, inl, inr, ⊎_elim, append-nil, suc-le-suc, arith, Some}
 use mathlib.Core.List.{head-eq_of_cons-eq}
-use mathlib.Core.Option.{some}
 use Rattle.grammar.specs.Grammar.{Grammar, left_side, right_side}
 use Rattle.grammar.specs.States.{Automaton}
 use Rattle.grammar.specs.Cells.{Holds, ConflictFree}
 use Rattle.grammar.specs.Machine.{Run, halt, Accepts, accept, shift, reduce}
 use Rattle.grammar.specs.declared.action.Action.TheVariants.{Shift, Accept, Reduce}
 use Rattle.grammar.proofs.Dots.{one_target}
-
-pub shift_not_accept : {t : ℕ} → Shift t ≡ Accept → ⊥
-shift_not_accept e = let z : ◌≡◌ {A = ℕ} 0 1 = cc in omega arith
-
-pub reduce_not_accept : {r : ℕ} → Reduce r ≡ Accept → ⊥
-reduce_not_accept e = let z : ◌≡◌ {A = ℕ} 0 1 = cc in omega arith
-
-pub shift_not_reduce : {t r : ℕ} → Shift t ≡ Reduce r → ⊥
-shift_not_reduce e = let z : ◌≡◌ {A = ℕ} 0 1 = cc in omega arith
 
 pub same_shift : {t u : ℕ} → Shift t ≡ Shift u → t ≡ u
 same_shift e = cc
@@ -44,7 +34,7 @@ module _ {G : Grammar} {A : Automaton} where
 
   module _ (free : ConflictFree G A) where
     -- Two reductions of one cell leave the same stack.
-    same_stack : (σ : List ℕ) {s w r q t r' q' t' : ℕ} {ρ ρ' : List ℕ} → Holds G A s w (Reduce r) → drop (length (right_side G r)) (s ∷ σ) ≡ q ∷ ρ → A.goto q (left_side G r) ≡ some t → Holds G A s w (Reduce r') → drop (length (right_side G r')) (s ∷ σ) ≡ q' ∷ ρ' → A.goto q' (left_side G r') ≡ some t' → t' ∷ q' ∷ ρ' ≡ t ∷ q ∷ ρ
+    same_stack : (σ : List ℕ) {s w r q t r' q' t' : ℕ} {ρ ρ' : List ℕ} → Holds G A s w (Reduce r) → drop (length (right_side G r)) (s ∷ σ) ≡ q ∷ ρ → A.goto q (left_side G r) ≡ Some t → Holds G A s w (Reduce r') → drop (length (right_side G r')) (s ∷ σ) ≡ q' ∷ ρ' → A.goto q' (left_side G r') ≡ Some t' → t' ∷ q' ∷ ρ' ≡ t ∷ q ∷ ρ
     same_stack σ {s} {w} {r} {q} {t} {r'} {q'} {t'} {ρ} {ρ'} h d g k d' g' =
         let e : r ≡ r' = same_reduce (free _ _ _ _ h k) in
         let f : q ∷ ρ ≡ q' ∷ ρ' = sym d ∙ ap (λ n. drop (length (right_side G n)) (s ∷ σ)) e ∙ d' in
@@ -54,19 +44,19 @@ module _ {G : Grammar} {A : Automaton} where
     -- Accepting goes on along any run, and the rules noted by the run are the first.
     pub along : {σ i qs τ j ps : List ℕ} → Run G A σ i qs τ j → Accepts G A σ i ps → (rs : List ℕ) × (ps ≡ qs ++ rs) × Accepts G A τ j rs
     along {ps = ps} halt y = (ps, refl, y)
-    along (Run.shift h x) (accept k) = absurd (shift_not_accept (free _ _ _ _ h k))
+    along (Run.shift h x) (accept k) = cc (free _ _ _ _ h k)
     along (Run.shift {s = s} {σ = σ} {i = i} h x) (shift {ps = qs} k y) = along x (subst (λ t. Accepts G A (t ∷ s ∷ σ) i qs) (same_shift (free _ _ _ _ k h)) y)
-    along (Run.shift h x) (reduce k d g y) = absurd (shift_not_reduce (free _ _ _ _ h k))
-    along (Run.reduce h d g x) (accept k) = absurd (reduce_not_accept (free _ _ _ _ h k))
-    along (Run.reduce h d g x) (shift k y) = absurd (shift_not_reduce (free _ _ _ _ k h))
+    along (Run.shift h x) (reduce k d g y) = cc (free _ _ _ _ h k)
+    along (Run.reduce h d g x) (accept k) = cc (free _ _ _ _ h k)
+    along (Run.reduce h d g x) (shift k y) = cc (free _ _ _ _ k h)
     along (Run.reduce {w = w} {σ = σ} {i = i} h d g x) (reduce {ps = qs} k d' g' y) =
         let v = along x (subst (λ l. Accepts G A l (w ∷ i) qs) (same_stack σ h d g k d' g') y) in
         (v.0, ap₂ (λ n l. n ∷ l) (sym (same_reduce (free _ _ _ _ h k))) v.1, v.2)
 
     at_accept : {s w : ℕ} {τ ps : List ℕ} → Holds G A s w Accept → Accepts G A (s ∷ τ) (w ∷ []) ps → ps ≡ []
     at_accept h (accept k) = refl
-    at_accept h (shift k x) = absurd (shift_not_accept (free _ _ _ _ k h))
-    at_accept h (reduce k d g x) = absurd (reduce_not_accept (free _ _ _ _ k h))
+    at_accept h (shift k x) = cc (free _ _ _ _ k h)
+    at_accept h (reduce k d g x) = cc (free _ _ _ _ k h)
 
     -- An input is accepted with one list of rules.
     pub same_rules : {σ i ps qs : List ℕ} → Accepts G A σ i ps → Accepts G A σ i qs → ps ≡ qs
@@ -79,8 +69,8 @@ module _ {G : Grammar} {A : Automaton} where
     pub most_rules : {σ i ps τ qs υ j : List ℕ} → Run G A σ i ps τ [] → Run G A σ i qs υ j → length qs ≤ length ps
     most_rules x halt = omega arith
     most_rules (Run.shift h x) (Run.shift {s = s} {σ = σ} {i = i} {ps = qs} {τ = υ} {j = j} k y) = most_rules x (subst (λ t. Run G A (t ∷ s ∷ σ) i qs υ j) (same_shift (free _ _ _ _ k h)) y)
-    most_rules (Run.reduce h d g x) (Run.shift k y) = absurd (shift_not_reduce (free _ _ _ _ k h))
-    most_rules (Run.shift h x) (Run.reduce k d g y) = absurd (shift_not_reduce (free _ _ _ _ h k))
+    most_rules (Run.reduce h d g x) (Run.shift k y) = cc (free _ _ _ _ k h)
+    most_rules (Run.shift h x) (Run.reduce k d g y) = cc (free _ _ _ _ h k)
     most_rules (Run.reduce h d g x) (Run.reduce {w = w} {σ = σ} {i = i} {ps = qs} {τ = υ} {j = j} k d' g' y) = suc-le-suc (most_rules x (subst (λ l. Run G A l (w ∷ i) qs υ j) (same_stack σ h d g k d' g') y))
 
     -- A run notes no more rules than another from the same place, or goes on from where that ends.
@@ -89,8 +79,8 @@ module _ {G : Grammar} {A : Automaton} where
     onward (Run.shift h x) halt = inl (omega arith)
     onward (Run.reduce h d g x) halt = inl (omega arith)
     onward (Run.shift h x) (Run.shift {s = s} {σ = σ} {i = i} {ps = qs} {τ = υ} {j = k} h' y) = onward x (subst (λ t. Run G A (t ∷ s ∷ σ) i qs υ k) (same_shift (free _ _ _ _ h' h)) y)
-    onward (Run.shift h x) (Run.reduce h' d g y) = absurd (shift_not_reduce (free _ _ _ _ h h'))
-    onward (Run.reduce h d g x) (Run.shift h' y) = absurd (shift_not_reduce (free _ _ _ _ h' h))
+    onward (Run.shift h x) (Run.reduce h' d g y) = cc (free _ _ _ _ h h')
+    onward (Run.reduce h d g x) (Run.shift h' y) = cc (free _ _ _ _ h' h)
     onward (Run.reduce {r = r} h d g x) (Run.reduce {w = w} {r = r'} {σ = σ} {i = i} {ps = qs} {τ = υ} {j = k} h' d' g' y) =
         ⊎_elim (λ e. inl (suc-le-suc e)) (λ z. inr (z.0, ap₂ (λ n l. n ∷ l) (sym (same_reduce (free _ _ _ _ h h'))) z.1, z.2))
         (onward x (subst (λ l. Run G A l (w ∷ i) qs υ k) (same_stack σ h d g h' d' g') y))

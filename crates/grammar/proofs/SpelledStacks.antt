@@ -1,7 +1,6 @@
 -- The stack spells codes that derive the words taken, by the rules noted; so what is accepted is a sentence.
-use Rattle.std.proofs.Common.{◌≡◌, ℕ, zero, suc, List, [], ◌∷◌, ◌++◌, length, take, drop, sym, refl, ap, ◌∙◌, subst, ap₂, subst₂, append_assoc, append-nil, arith}
+use Rattle.std.proofs.Common.{◌≡◌, ℕ, zero, suc, List, [], ◌∷◌, ◌++◌, length, take, drop, sym, refl, ap, ◌∙◌, subst, ap₂, subst₂, append_assoc, append-nil, arith, Some}
 use mathlib.Core.List.{append_cancel_right}
-use mathlib.Core.Option.{some}
 use lib.Seq.{take-length}
 use Rattle.grammar.specs.Grammar.{Grammar, IsRule, left_side, right_side, start}
 use Rattle.grammar.specs.Trees.{Forest, empty, leaf, TreeOf}
@@ -53,13 +52,13 @@ module _ {G : Grammar} {A : Automaton} (L : Laws G A) where
       }
 
   -- A rule with the dot in front came in by closure, so the state moves by its left side.
-  moves_made : {s r d : ℕ} → IsRule G r → Made G A.has s r d → d ≡ 0 → (t : ℕ) × (A.goto s (left_side G r) ≡ some t)
+  moves_made : {s r d : ℕ} → IsRule G r → Made G A.has s r d → d ≡ 0 → (t : ℕ) × (A.goto s (left_side G r) ≡ Some t)
   moves_made i (moved h) e = absurd (omega arith)
   moves_made i at_origin e = absurd (omega arith)
   moves_made i (closure m c j) e = let k = L.moves (made_has m) c in (k.0, k.1)
 
   -- A reduction finds its states on the stack and its goto.
-  pub can_reduce : {γ σ : List ℕ} {s w r : ℕ} → Spells G A γ (s ∷ σ) → Holds G A s w (Reduce r) → (q : ℕ) × (ρ : List ℕ) × (t : ℕ) × (drop (length (right_side G r)) (s ∷ σ) ≡ q ∷ ρ) × (A.goto q (left_side G r) ≡ some t)
+  pub can_reduce : {γ σ : List ℕ} {s w r : ℕ} → Spells G A γ (s ∷ σ) → Holds G A s w (Reduce r) → (q : ℕ) × (ρ : List ℕ) × (t : ℕ) × (drop (length (right_side G r)) (s ∷ σ) ≡ q ∷ ρ) × (A.goto q (left_side G r) ≡ Some t)
   can_reduce {r = r} x h =
       let i = reduction L h in
       let u = unwind (length (right_side G r)) x i.1 in
@@ -79,7 +78,7 @@ module _ {G : Grammar} {A : Automaton} (L : Laws G A) where
   stands_shift {w = w} (may_shift h g) x = record { codes = x.codes ++ w ∷ []; spells = push x.spells g; forest = rw append-nil at (join x.forest (leaf h empty)) }
 
   -- The trees of a right side become one tree of the left side.
-  joined : {γ σ ρ us ps : List ℕ} {r q t : ℕ} → IsRule G r → (u : Unwound γ σ r (length (right_side G r))) → u.base ∷ u.below ≡ q ∷ ρ → A.goto q (left_side G r) ≡ some t → Split G u.codes (right_side G r) us ps → Stands (t ∷ q ∷ ρ) us (ps ++ r ∷ [])
+  joined : {γ σ ρ us ps : List ℕ} {r q t : ℕ} → IsRule G r → (u : Unwound γ σ r (length (right_side G r))) → u.base ∷ u.below ≡ q ∷ ρ → A.goto q (left_side G r) ≡ Some t → Split G u.codes (right_side G r) us ps → Stands (t ∷ q ∷ ρ) us (ps ++ r ∷ [])
   joined {r = r} i u p g f =
       record {
         codes = u.codes ++ left_side G r ∷ [];
@@ -87,7 +86,7 @@ module _ {G : Grammar} {A : Automaton} (L : Laws G A) where
         forest = subst₂ (λ a b. Forest G (u.codes ++ left_side G r ∷ []) a b) (sym f.words_are) (sym (append_assoc f.rules_front f.rules_back (r ∷ [])) ∙ ap (λ m. m ++ r ∷ []) (sym f.rules_are)) (join f.front (tree i f.back));
       }
 
-  pub stands_reduce : {s w r q t : ℕ} {σ ρ us ps : List ℕ} → Holds G A s w (Reduce r) → drop (length (right_side G r)) (s ∷ σ) ≡ q ∷ ρ → A.goto q (left_side G r) ≡ some t → Stands (s ∷ σ) us ps → Stands (t ∷ q ∷ ρ) us (ps ++ r ∷ [])
+  pub stands_reduce : {s w r q t : ℕ} {σ ρ us ps : List ℕ} → Holds G A s w (Reduce r) → drop (length (right_side G r)) (s ∷ σ) ≡ q ∷ ρ → A.goto q (left_side G r) ≡ Some t → Stands (s ∷ σ) us ps → Stands (t ∷ q ∷ ρ) us (ps ++ r ∷ [])
   stands_reduce {r = r} h d g x =
       let i = reduction L h in
       let u = unwind (length (right_side G r)) x.spells i.1 in

@@ -17,7 +17,7 @@ entry_cases (leads l w m) = inr l
 module _ (G : Grammar) (W : Within G) where
   -- Rows of 88 entries keep apart.
   code_below : {X : ℕ} → IsCode G X → X < 88
-  code_below o = omega (arith, o.high, W.terminals, W.nonterminals)
+  code_below o = omega (arith, o.high, W.counts.terminals, W.counts.nonterminals)
 
   -- The first state, before any entry.
   pub sofar_start : (sets : List (List Bool)) (gotos : List ℕ) → length sets ≡ 96 → length gotos ≡ 8448 → length (state_at sets 0) ≡ 873 → Completes G origin (items_of (state_at sets 0)) → Sofar G 1 sets gotos 0 1
@@ -221,6 +221,6 @@ module _ (G : Grammar) (W : Within G) where
         begins = f.begins;
         reached = f.reached;
         apart = f.apart;
-        entries = λ p Y o l. f.entries p Y o (omega (arith, o.low, o.high, W.terminals, W.nonterminals));
-        met = λ t l h. let m = f.met t l h in (m.0, m.1, omega (arith, m.2, W.terminals, W.nonterminals), m.3);
+        entries = λ p Y o l. f.entries p Y o (omega (arith, o.low, o.high, W.counts.terminals, W.counts.nonterminals));
+        met = λ t l h. let m = f.met t l h in (m.0, m.1, omega (arith, m.2, W.counts.terminals, W.counts.nonterminals), m.3);
       }

@@ -1,10 +1,11 @@
 -- A word that comes to an open line below its limits is taken exactly when some sentence begins so.
-use Rattle.std.proofs.Common.{◌≡◌, ℕ, ◌-◌, ◌<◌, Bool, true, false, cond, not, leb, List, [], ◌∷◌, ◌++◌, length, sym, refl, ap, ◌∙◌, subst, append_assoc, arith, length-append}
-use mathlib.Core.Option.{Option}
+use Rattle.std.proofs.Common.{◌≡◌, ℕ, ◌-◌, ◌<◌, Bool, false, cond, not, List, [], ◌∷◌, ◌++◌, length, sym, refl, ap, ◌∙◌, subst, append_assoc, arith, length-append, Option}
+use Rattle.std.proofs.Math.Seq.{drop-append_seam}
+use Rattle.std.proofs.lemmas.List.Elements.{All-head, All-drop}
 use borrow.Author.Tests.{lt-leb}
 use Rattle.grammar.specs.Grammar.{Grammar, Valid, IsTerminal, AllTerminals}
 use Rattle.grammar.specs.Trees.{AllProductive}
-use Rattle.grammar.specs.Derivation.{Derives, Begins, is_terminal}
+use Rattle.grammar.specs.Derivation.{Derives, Begins}
 use Rattle.grammar.specs.States.{Automaton, Laws}
 use Rattle.grammar.specs.Cells.{Exact}
 use Rattle.grammar.specs.Machine.{halt, reduce, FewReductions}
@@ -17,24 +18,23 @@ use Rattle.grammar.proofs.FormSteps.{is_terminal_lem}
 use Rattle.grammar.proofs.Sentences.{tree_of, begins_sentence}
 use Rattle.grammar.proofs.AcceptedPrefixes.{no_middle}
 use Rattle.grammar.proofs.MachineEnds.{Says, says, Agrees, agrees}
-use Rattle.grammar.proofs.OpenLines.{Standing, standing, same_line, not_after}
+use Rattle.grammar.proofs.OpenLines.{Standing, standing, same_line, not_after, machine_says}
 use Rattle.grammar.proofs.JudgedLines.{rest}
 
 middle_terminal : (G : Grammar) (us : List ℕ) (w : ℕ) (z : List ℕ) → AllTerminals G ((us ++ w ∷ []) ++ z) → IsTerminal G w
-middle_terminal G [] w z h = h.0
-middle_terminal G (u ∷ us) w z h = middle_terminal G us w z h.1
+middle_terminal G us w z h =
+    let rest : AllTerminals G (w ∷ z) = subst (AllTerminals G) (drop-append_seam us (w ∷ z)) (All-drop (IsTerminal G) (length us) _ (rw append_assoc at h)) in
+    All-head (IsTerminal G) w z rest
 
-words_ended : (l : Line) {m : Line} (w : ℕ) (o : Ended) (a b : Bool) → cond a (refused 11) (cond b (refused 12) (after_word l w o)) ≡ after m → m.words ≡ l.words ++ w ∷ []
-words_ended l w o true b e = absurd (not_after e)
-words_ended l w o false true e = absurd (not_after e)
-words_ended l w stuck false false e = absurd (not_after e)
-words_ended l w full false false e = absurd (not_after e)
-words_ended l w (accepted τ ps) false false e = absurd (not_after e)
-words_ended l w (shifted τ ps) false false e = sym (ap (λ m. m.words) (same_line e))
+words_ended : (l : Line) {m : Line} (w : ℕ) (o : Ended) → after_word l w o ≡ after m → m.words ≡ l.words ++ w ∷ []
+words_ended l w stuck e = cc
+words_ended l w full e = cc
+words_ended l w (accepted τ ps) e = cc
+words_ended l w (shifted τ ps) e = sym (ap (λ m. m.words) (same_line e))
 
 -- A word taken is the line's last.
 pub words_after : (G : Grammar) (A : Automaton) (cells : ℕ → ℕ → Option Action) (l m : Line) (w : ℕ) → take_word G A cells l w ≡ after m → m.words ≡ l.words ++ w ∷ []
-words_after G A cells l m w e = words_ended l w (runs G A cells (768 - length l.rules) w l.states) (leb 256 (length l.words)) (not (is_terminal G w)) e
+words_after G A cells l m w e = words_ended l w (runs G A cells (768 - length l.rules) w l.states) (machine_says G A cells l w e not_after not_after).1
 
 -- Each word with which a sentence begins is a terminal.
 pub begins_terminal : {G : Grammar} → Valid G → (us : List ℕ) (w : ℕ) → Begins G (us ++ w ∷ []) → IsTerminal G w

@@ -1,8 +1,9 @@
 -- What the machine has taken begins a sentence, where every nonterminal is productive.
-use Rattle.std.proofs.Common.{◌≡◌, ℕ, zero, suc, ◌≤◌, ◌⊎◌, List, [], ◌∷◌, ◌++◌, length, drop, sym, refl, ap, ◌∙◌, subst, subst₂, inl, inr, append_assoc, append-nil, arith}
+use Rattle.std.proofs.Common.{◌≡◌, ℕ, zero, suc, ◌≤◌, List, [], ◌∷◌, ◌++◌, length, drop, sym, refl, ap, ◌∙◌, subst, subst₂, inl, inr, append_assoc, append-nil, arith}
+use Rattle.std.proofs.lemmas.List.Elements.{All-nil, All-cons, All-head, All-tail, All-drop}
 use native.Mathlib.Decide.{dec_le}
 use lib.ListN.{get_or-eq_default}
-use Rattle.grammar.specs.Grammar.{Grammar, no_rule, IsTerminal, IsRule, IsNonterminal, AllCodes, Valid, left_side, right_side, start}
+use Rattle.grammar.specs.Grammar.{Grammar, no_rule, IsRule, IsSymbol, AllCodes, Valid, left_side, right_side, start}
 use Rattle.grammar.specs.Trees.{Forest, empty, leaf, node, Productive, TreeOf, AllProductive}
 use Rattle.grammar.specs.States.{Automaton, Laws, Made, moved, at_origin, closure}
 use Rattle.grammar.specs.Machine.{Run, Spells, bottom, push}
@@ -19,30 +20,25 @@ module _ {G : Grammar} (valid : Valid G) (productive : AllProductive G) where
   -- Terminals and nonterminals stand on every right side; a number that is no rule has none.
   codes_past : (i : ℕ) → Dec (suc i ≤ length G.rules) → AllCodes G (right_side G (suc i))
   codes_past i (yes h) = valid.rights (suc i) (record { low = omega arith; high = h })
-  codes_past i (no h) = rw (right_past i h) tt
+  codes_past i (no h) = rw (right_past i h) (All-nil (IsSymbol G))
 
   codes_start : AllCodes G (right_side G 0)
   unfolding right_side start
-  codes_start = (inr (record { low = omega arith; high = omega (arith, valid.some_nonterminal) }), tt)
+  codes_start = All-cons (IsSymbol G) (start G) [] (inr (record { low = omega arith; high = omega (arith, valid.some_nonterminal) })) (All-nil (IsSymbol G))
 
   codes_of : (r : ℕ) → AllCodes G (right_side G r)
   codes_of zero = codes_start
   codes_of (suc i) = codes_past i (dec_le (suc i) (length G.rules))
 
-  codes_drop : (d : ℕ) (Xs : List ℕ) → AllCodes G Xs → AllCodes G (drop d Xs)
-  codes_drop zero Xs h = h
-  codes_drop (suc d) [] h = h
-  codes_drop (suc d) (X ∷ Xs) h = codes_drop d Xs h.1
-
-  some_tree : (X : ℕ) → IsTerminal G X ⊎ IsNonterminal G X → Productive G X
+  some_tree : (X : ℕ) → IsSymbol G X → Productive G X
   some_tree X (inl h) = (X ∷ [], [], leaf h empty)
   some_tree X (inr h) = productive X h
 
   some_forest : (Xs : List ℕ) → AllCodes G Xs → (ws ps : List ℕ) × Forest G Xs ws ps
   some_forest [] h = ([], [], empty)
   some_forest (X ∷ Xs) h =
-      let t = some_tree X h.0 in
-      let f = some_forest Xs h.1 in
+      let t = some_tree X (All-head (IsSymbol G) X Xs h) in
+      let f = some_forest Xs (All-tail (IsSymbol G) X Xs h) in
       (t.0 ++ f.0, t.1 ++ f.1, join t.2 f.2)
 
   -- Words that make a sentence of whatever γ and then β derive.
@@ -74,7 +70,7 @@ module _ {G : Grammar} (valid : Valid G) (productive : AllProductive G) where
     ends_made at_origin x k = ends_origin (at_bottom L x refl)
     ends_made {γ} (closure {r = r} {d = d} {q = q} m c i) x k =
         let e = ends_made m x k in
-        ends_closure γ i (some_forest (drop (suc d) (right_side G r)) (codes_drop (suc d) (right_side G r) (codes_of r))).2 (rw (drop_at_code (right_side G r) d (left_side G q) c) at e)
+        ends_closure γ i (some_forest (drop (suc d) (right_side G r)) (All-drop (IsSymbol G) (suc d) (right_side G r) (codes_of r))).2 (rw (drop_at_code (right_side G r) d (left_side G q) c) at e)
 
     ends : {γ σ : List ℕ} {s r d : ℕ} → Spells G A γ (s ∷ σ) → Has A s r d → Ends γ (drop d (right_side G r))
     ends bottom h = ends_made (L.made h) bottom (λ r d k. absurd (L.fresh k))
@@ -94,7 +90,7 @@ module _ {G : Grammar} (valid : Valid G) (productive : AllProductive G) where
     viable : {γ σ us out : List ℕ} {s : ℕ} → Spells G A γ (s ∷ σ) → Forest G γ us out → (z qs : List ℕ) × TreeOf G (us ++ z) qs
     viable x f =
         let t = some_item x in
-        finish (drop t.1 (right_side G t.0)) (codes_drop t.1 (right_side G t.0) (codes_of t.0)) (ends x t.2) f
+        finish (drop t.1 (right_side G t.0)) (All-drop (IsSymbol G) t.1 (right_side G t.0) (codes_of t.0)) (ends x t.2) f
 
     viable_stack : {γ σ us out : List ℕ} → Spells G A γ σ → Forest G γ us out → (z qs : List ℕ) × TreeOf G (us ++ z) qs
     viable_stack bottom f = viable bottom f

@@ -1,6 +1,5 @@
 -- What the cell of a state and a word, 0 included, holds.
-use Rattle.std.specs.Prelude.{◌≡◌, ℕ, ◌<◌, true, ◌↔◌}
-use Rattle.std.proofs.Math.Option.{Option, some}
+use Rattle.std.specs.Prelude.{◌≡◌, ℕ, ◌<◌, true, ◌↔◌, Option, Some}
 use Rattle.grammar.specs.Grammar.{Grammar, IsTerminal, IsRule}
 use Rattle.grammar.specs.States.{Automaton, Earlier}
 use Rattle.grammar.specs.Lookahead.{Lookahead}
@@ -16,7 +15,7 @@ rank (Reduce r) = r
 module _ (G : Grammar) (A : Automaton) where
   -- An action of the cell: a shift for a move by the word, an accept where rule 0 has its dot before the end mark, a reduction for each rule whose lookahead has the word.
   pub data Holds : ℕ → ℕ → Action → Type 0 where
-    may_shift : {s w t : ℕ} → IsTerminal G w → A.goto s w ≡ some t → Holds s w (Shift t)
+    may_shift : {s w t : ℕ} → IsTerminal G w → A.goto s w ≡ Some t → Holds s w (Shift t)
     may_accept : {s : ℕ} → A.has s 0 1 ≡ true → Holds s 0 Accept
     may_reduce : {s w r : ℕ} → IsRule G r → Lookahead G A s r w → Holds s w (Reduce r)
 
@@ -34,4 +33,4 @@ module _ (G : Grammar) (A : Automaton) where
 
   -- The cells as a function.
   abbrev pub Exact : (ℕ → ℕ → Option Action) → Type 0
-  Exact cells = (s w : ℕ) (a : Action) → (cells s w ≡ some a) ↔ Holds s w a
+  Exact cells = (s w : ℕ) (a : Action) → (cells s w ≡ Some a) ↔ Holds s w a

@@ -1,6 +1,5 @@
 -- Rightmost derivations: each rule replaces the last nonterminal of the form, its own left side, by its right side.
-use Rattle.std.specs.Prelude.{◌≡◌, ℕ, ◌≤◌, Bool, cond, ◌&&◌, List, [], ◌∷◌, ◌++◌, length, ◌==◌, nat_le}
-use Rattle.std.proofs.Math.Option.{Option, some, none}
+use Rattle.std.specs.Prelude.{◌≡◌, ℕ, ◌≤◌, Bool, cond, ◌&&◌, List, [], ◌∷◌, ◌++◌, length, ◌==◌, nat_le, Option, Some, None, option_and_then}
 use Rattle.grammar.specs.Grammar.{Grammar, IsRule, AllTerminals, left_side, right_side, start}
 
 abbrev pub is_terminal : Grammar → ℕ → Bool
@@ -16,35 +15,31 @@ pub record Cut : Type 0 where
   pub after : List ℕ
 
 abbrev pub cut_at : Grammar → ℕ → List ℕ → Option Cut → Option Cut
-cut_at G Y Ys (some c) = some (record { before = Y ∷ c.before; nonterminal = c.nonterminal; after = c.after })
-cut_at G Y Ys none = cond (is_terminal G Y) none (some (record { before = []; nonterminal = Y; after = Ys }))
+cut_at G Y Ys (Some c) = Some (record { before = Y ∷ c.before; nonterminal = c.nonterminal; after = c.after })
+cut_at G Y Ys None = cond (is_terminal G Y) None (Some (record { before = []; nonterminal = Y; after = Ys }))
 
 unfoldable pub last_nonterminal : Grammar → List ℕ → Option Cut
-last_nonterminal G [] = none
+last_nonterminal G [] = None
 last_nonterminal G (Y ∷ Ys) = cut_at G Y Ys (last_nonterminal G Ys)
 
 -- The form after a rule, if its left side is the last nonterminal.
 abbrev pub replaced : Grammar → ℕ → Option Cut → Option (List ℕ)
-replaced G r none = none
-replaced G r (some c) = cond (is_rule G r && c.nonterminal == left_side G r) (some (c.before ++ (right_side G r ++ c.after))) none
+replaced G r None = None
+replaced G r (Some c) = cond (is_rule G r && c.nonterminal == left_side G r) (Some (c.before ++ (right_side G r ++ c.after))) None
 
 -- Just words are left.
 abbrev pub finished : List ℕ → Option Cut → Option (List ℕ)
-finished ws none = some ws
-finished ws (some c) = none
-
-abbrev pub chain : (List ℕ → Option (List ℕ)) → Option (List ℕ) → Option (List ℕ)
-chain f none = none
-chain f (some form) = f form
+finished ws None = Some ws
+finished ws (Some c) = None
 
 -- The words that a list of rules leads to from a form, if each rule replaces the last nonterminal.
 unfoldable pub derive : Grammar → List ℕ → List ℕ → Option (List ℕ)
 derive G [] form = finished form (last_nonterminal G form)
-derive G (r ∷ rs) form = chain (derive G rs) (replaced G r (last_nonterminal G form))
+derive G (r ∷ rs) form = option_and_then (derive G rs) (replaced G r (last_nonterminal G form))
 
 -- The rules ds are a rightmost derivation of the words ws; each is a derivation step.
 abbrev pub Derives : Grammar → List ℕ → List ℕ → Type 0
-Derives G ds ws = derive G ds (start G ∷ []) ≡ some ws
+Derives G ds ws = derive G ds (start G ∷ []) ≡ Some ws
 
 -- A sentence is a list of words that has a rightmost derivation.
 abbrev pub Sentence : Grammar → List ℕ → Type 0

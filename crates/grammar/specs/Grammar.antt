@@ -1,5 +1,5 @@
 -- Grammars. Code 0 is the end mark, codes 1 to T are the terminals, and codes T + 1 to T + N the nonterminals, of which T + 1 is the start.
-use Rattle.std.specs.Prelude.{ℕ, zero, suc, ◌+◌, ◌<◌, ◌≤◌, ◌⊎◌, List, [], ◌∷◌, length, slice_index_or}
+use Rattle.std.specs.Prelude.{ℕ, zero, suc, ◌+◌, ◌<◌, ◌≤◌, ◌⊎◌, List, [], ◌∷◌, length, slice_index_or, All}
 
 -- A rule puts the codes on its right in the place of the nonterminal on its left.
 pub record Rule : Type 0 where
@@ -48,13 +48,14 @@ pub record IsRule (G : Grammar) (r : ℕ) : Type 0 where
   pub high : r ≤ length G.rules
 
 abbrev pub AllTerminals : Grammar → List ℕ → Type 0
-AllTerminals G [] = Unit {0}
-AllTerminals G (w ∷ ws) = IsTerminal G w × AllTerminals G ws
+AllTerminals G ws = All (IsTerminal G) ws
+
+abbrev pub IsSymbol : Grammar → ℕ → Type 0
+IsSymbol G X = IsTerminal G X ⊎ IsNonterminal G X
 
 -- Every code is a terminal or a nonterminal.
 abbrev pub AllCodes : Grammar → List ℕ → Type 0
-AllCodes G [] = Unit {0}
-AllCodes G (X ∷ Xs) = (IsTerminal G X ⊎ IsNonterminal G X) × AllCodes G Xs
+AllCodes G Xs = All (IsSymbol G) Xs
 
 -- A nonterminal stands on every left side, and terminals and nonterminals on every right side; and there is a start.
 pub record Valid (G : Grammar) : Type 0 where

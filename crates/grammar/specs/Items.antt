@@ -1,12 +1,10 @@
 -- Items, and the sets of items that are states. An item is a rule with a dot somewhere in its right side, from 0 in front.
-use Rattle.std.specs.Prelude.{◌≡◌, ℕ, zero, suc, Bool, true, false, ◌&&◌, ◌==◌}
-use Rattle.std.proofs.Math.Option.{Option, some, none}
-use Rattle.std.proofs.Math.ListN.{get_elem?}
+use Rattle.std.specs.Prelude.{◌≡◌, ℕ, zero, suc, Bool, true, false, ◌&&◌, ◌==◌, Option, Some, None, slice_get}
 use Rattle.grammar.specs.Grammar.{Grammar, IsRule, left_side, right_side}
 
 -- The code behind the dot of the item (r, d).
 abbrev pub CodeAt : Grammar → ℕ → ℕ → ℕ → Type 0
-CodeAt G r d X = get_elem? (right_side G r) d ≡ some X
+CodeAt G r d X = slice_get (right_side G r) d ≡ Some X
 
 -- A set of items, by rule and dot.
 abbrev pub Items : Type 0
@@ -31,13 +29,13 @@ abbrev pub origin : Items
 origin r d = r == 0 && d == 0
 
 abbrev pub code_is : Option ℕ → ℕ → Bool
-code_is none X = false
-code_is (some Y) X = Y == X
+code_is None X = false
+code_is (Some Y) X = Y == X
 
 -- The items with the dot before a code, with the dot put behind it.
 abbrev pub behind : Grammar → Items → ℕ → Items
 behind G S X r zero = false
-behind G S X r (suc d) = S r d && code_is (get_elem? (right_side G r) d) X
+behind G S X r (suc d) = S r d && code_is (slice_get (right_side G r) d) X
 
 -- A move by a code leads from the set S to the set T.
 abbrev pub Move : Grammar → Items → ℕ → Items → Type 0

@@ -1,5 +1,6 @@
 pub mod Grammar
 pub mod Refusals
+pub mod Texts
 pub mod Trees
 pub mod Derivation
 pub mod Items

@@ -1,6 +1,5 @@
 -- The machine with its limits, on a designer's line.
-use Rattle.std.specs.Prelude.{◌≡◌, ℕ, zero, suc, ◌-◌, cond, not, List, [], ◌∷◌, ◌++◌, length, drop, nat_le}
-use Rattle.std.proofs.Math.Option.{Option, some, none}
+use Rattle.std.specs.Prelude.{◌≡◌, ℕ, zero, suc, ◌-◌, cond, not, List, [], ◌∷◌, ◌++◌, length, drop, nat_le, Option, Some, None}
 use Rattle.grammar.specs.Grammar.{Grammar, left_side, right_side}
 use Rattle.grammar.specs.Derivation.{is_terminal}
 use Rattle.grammar.specs.States.{Automaton}
@@ -32,22 +31,22 @@ noted r (accepted σ rs) = accepted σ (r ∷ rs)
 
 -- What an action does on a stack; `reduced` goes on after a reduction.
 abbrev pub act : List ℕ → (ℕ → Ended) → Option Action → Ended
-act σ reduced none = stuck
-act σ reduced (some (Shift t)) = shifted (t ∷ σ) []
-act σ reduced (some (Reduce r)) = reduced r
-act σ reduced (some Accept) = accepted σ []
+act σ reduced None = stuck
+act σ reduced (Some (Shift t)) = shifted (t ∷ σ) []
+act σ reduced (Some (Reduce r)) = reduced r
+act σ reduced (Some Accept) = accepted σ []
 
 -- The state reached by a rule's left side is put on, and the rule is noted.
 abbrev pub put_on : (List ℕ → Ended) → ℕ → List ℕ → Option ℕ → Ended
-put_on next r σ none = stuck
-put_on next r σ (some t) = noted r (next (t ∷ σ))
+put_on next r σ None = stuck
+put_on next r σ (Some t) = noted r (next (t ∷ σ))
 
 abbrev pub go_on : Grammar → Automaton → (List ℕ → Ended) → ℕ → List ℕ → Ended
 go_on G A next r [] = stuck
 go_on G A next r (q ∷ σ) = put_on next r (q ∷ σ) (A.goto q (left_side G r))
 
 abbrev pub cell_of : (ℕ → ℕ → Option Action) → List ℕ → ℕ → Option Action
-cell_of cells [] w = none
+cell_of cells [] w = None
 cell_of cells (s ∷ σ) w = cells s w
 
 module _ (G : Grammar) (A : Automaton) (cells : ℕ → ℕ → Option Action) where

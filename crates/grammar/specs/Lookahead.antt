@@ -1,6 +1,5 @@
 -- The lookaheads of DeRemer and Pennello.
-use Rattle.std.specs.Prelude.{◌≡◌, ℕ, true, List, [], ◌∷◌, ◌++◌}
-use Rattle.std.proofs.Math.Option.{some}
+use Rattle.std.specs.Prelude.{◌≡◌, ℕ, true, List, [], ◌∷◌, ◌++◌, Some}
 use Rattle.grammar.specs.Grammar.{Grammar, IsTerminal, IsNonterminal, IsRule, left_side, right_side}
 use Rattle.grammar.specs.Trees.{Nullable, AllNullable}
 use Rattle.grammar.specs.States.{Automaton}
@@ -13,25 +12,25 @@ pub data Star {B : Type 0} (R : B → B → Type 0) : B → B → Type 0 where
 -- The codes lead from one state to another.
 pub data Leads (A : Automaton) : ℕ → List ℕ → ℕ → Type 0 where
   here : {s : ℕ} → Leads A s [] s
-  onward : {s t u X : ℕ} {Xs : List ℕ} → A.goto s X ≡ some t → Leads A t Xs u → Leads A s (X ∷ Xs) u
+  onward : {s t u X : ℕ} {Xs : List ℕ} → A.goto s X ≡ Some t → Leads A t Xs u → Leads A s (X ∷ Xs) u
 
 module _ (G : Grammar) (A : Automaton) where
   -- A transition: a state with a move by a nonterminal.
   pub record Transition (x : ℕ × ℕ) : Type 0 where
     pub nonterminal : IsNonterminal G x.1
     pub to : ℕ
-    pub move : A.goto x.0 x.1 ≡ some to
+    pub move : A.goto x.0 x.1 ≡ Some to
 
   -- The words by which a state moves, and 0 where it has rule 0 with the dot before the end mark.
   pub data Direct : ℕ → ℕ → Type 0 where
-    next_word : {s w t : ℕ} → IsTerminal G w → A.goto s w ≡ some t → Direct s w
+    next_word : {s w t : ℕ} → IsTerminal G w → A.goto s w ≡ Some t → Direct s w
     next_end : {s : ℕ} → A.has s 0 1 ≡ true → Direct s 0
 
   -- Transition (p, X) reads (q, Y): X leads from p to q, q moves by Y, and Y is nullable.
   pub record Reads (x y : ℕ × ℕ) : Type 0 where
     pub from : Transition x
     pub to : Transition y
-    pub move : A.goto x.0 x.1 ≡ some y.0
+    pub move : A.goto x.0 x.1 ≡ Some y.0
     pub nullable : Nullable G y.1
 
   -- Transition (p, X) includes (q, Y): a rule of Y is β X γ, all of γ is nullable, and β leads from q to p.

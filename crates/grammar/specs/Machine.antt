@@ -1,6 +1,5 @@
 -- The machine without limits, as a relation over stacks of states, the top first, and the input that is left.
-use Rattle.std.specs.Prelude.{◌≡◌, ℕ, ◌≤◌, List, [], ◌∷◌, ◌++◌, length, drop}
-use Rattle.std.proofs.Math.Option.{some}
+use Rattle.std.specs.Prelude.{◌≡◌, ℕ, ◌≤◌, List, [], ◌∷◌, ◌++◌, length, drop, Some}
 use Rattle.grammar.specs.Grammar.{Grammar, left_side, right_side}
 use Rattle.grammar.specs.States.{Automaton}
 use Rattle.grammar.specs.Cells.{Holds}
@@ -11,18 +10,18 @@ module _ (G : Grammar) (A : Automaton) where
   pub data Run : List ℕ → List ℕ → List ℕ → List ℕ → List ℕ → Type 0 where
     halt : {σ i : List ℕ} → Run σ i [] σ i
     shift : {s w t : ℕ} {σ i ps τ j : List ℕ} → Holds G A s w (Shift t) → Run (t ∷ s ∷ σ) i ps τ j → Run (s ∷ σ) (w ∷ i) ps τ j
-    reduce : {s w r q t : ℕ} {σ ρ i ps τ j : List ℕ} → Holds G A s w (Reduce r) → drop (length (right_side G r)) (s ∷ σ) ≡ q ∷ ρ → A.goto q (left_side G r) ≡ some t → Run (t ∷ q ∷ ρ) (w ∷ i) ps τ j → Run (s ∷ σ) (w ∷ i) (r ∷ ps) τ j
+    reduce : {s w r q t : ℕ} {σ ρ i ps τ j : List ℕ} → Holds G A s w (Reduce r) → drop (length (right_side G r)) (s ∷ σ) ≡ q ∷ ρ → A.goto q (left_side G r) ≡ Some t → Run (t ∷ q ∷ ρ) (w ∷ i) ps τ j → Run (s ∷ σ) (w ∷ i) (r ∷ ps) τ j
 
   -- Accepts σ i ps: from stack σ and input i the machine accepts, noting the rules ps.
   pub data Accepts : List ℕ → List ℕ → List ℕ → Type 0 where
     accept : {s w : ℕ} {σ : List ℕ} → Holds G A s w Accept → Accepts (s ∷ σ) (w ∷ []) []
     shift : {s w t : ℕ} {σ i ps : List ℕ} → Holds G A s w (Shift t) → Accepts (t ∷ s ∷ σ) i ps → Accepts (s ∷ σ) (w ∷ i) ps
-    reduce : {s w r q t : ℕ} {σ ρ i ps : List ℕ} → Holds G A s w (Reduce r) → drop (length (right_side G r)) (s ∷ σ) ≡ q ∷ ρ → A.goto q (left_side G r) ≡ some t → Accepts (t ∷ q ∷ ρ) (w ∷ i) ps → Accepts (s ∷ σ) (w ∷ i) (r ∷ ps)
+    reduce : {s w r q t : ℕ} {σ ρ i ps : List ℕ} → Holds G A s w (Reduce r) → drop (length (right_side G r)) (s ∷ σ) ≡ q ∷ ρ → A.goto q (left_side G r) ≡ Some t → Accepts (t ∷ q ∷ ρ) (w ∷ i) ps → Accepts (s ∷ σ) (w ∷ i) (r ∷ ps)
 
   -- The stack is the states along the codes γ from state 0.
   pub data Spells : List ℕ → List ℕ → Type 0 where
     bottom : Spells [] (0 ∷ [])
-    push : {p X t : ℕ} {γ σ : List ℕ} → Spells γ (p ∷ σ) → A.goto p X ≡ some t → Spells (γ ++ X ∷ []) (t ∷ p ∷ σ)
+    push : {p X t : ℕ} {γ σ : List ℕ} → Spells γ (p ∷ σ) → A.goto p X ≡ Some t → Spells (γ ++ X ∷ []) (t ∷ p ∷ σ)
 
   -- The machine accepts the words and then the end mark, from state 0, noting the rules ps.
   abbrev pub AcceptsWords : List ℕ → List ℕ → Type 0

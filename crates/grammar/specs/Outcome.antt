@@ -1,6 +1,5 @@
 -- What building a grammar comes to.
-use Rattle.std.specs.Prelude.{◌≡◌, ℕ, ◌<◌, ◌≤◌, length}
-use Rattle.std.proofs.Math.Option.{Option}
+use Rattle.std.specs.Prelude.{◌≡◌, ℕ, ◌<◌, ◌≤◌, length, Option}
 use Rattle.grammar.specs.Grammar.{Grammar, IsRule, IsNonterminal, AllCodes, left_side, right_side}
 use Rattle.grammar.specs.States.{Automaton, Numbered, Crowded}
 use Rattle.grammar.specs.Cells.{FirstConflict, Exact}
@@ -9,14 +8,18 @@ use Rattle.grammar.specs.declared.action.Action.{Action}
 use Rattle.grammar.specs.declared.refusal.Refusal.{Refusal}
 use Rattle.grammar.specs.declared.refusal.Refusal.TheVariants.{Limits, Range, Useless as UselessNonterminal, States, Conflict}
 
--- The counts and the lengths of the right sides are within their limits.
-pub record Within (G : Grammar) : Type 0 where
+-- The counts are within their limits.
+pub record Counted (G : Grammar) : Type 0 where
   pub some_terminal : 1 ≤ G.terminals
   pub terminals : G.terminals ≤ 63
   pub some_nonterminal : 1 ≤ G.nonterminals
   pub nonterminals : G.nonterminals ≤ 24
   pub some_rule : 1 ≤ length G.rules
   pub rules : length G.rules ≤ 96
+
+-- The counts and the lengths of the right sides are within their limits.
+pub record Within (G : Grammar) : Type 0 where
+  pub counts : Counted G
   pub right_sides : (r : ℕ) → IsRule G r → length (right_side G r) ≤ 8
 
 -- The codes of a rule are in range.

@@ -1,6 +1,5 @@
 -- Numbered states as lists: the set of each state, and where each code leads from each, at 88 times the state and the code, 255 for nowhere.
-use Rattle.std.specs.Prelude.{◌≡◌, ℕ, ◌+◌, ◌*◌, ◌<◌, ◌≤◌, Bool, cond, ◌&&◌, ◌⊎◌, List, [], length, ◌≢◌, nat_le, nat_lt, slice_index, slice_index_or, slice_set}
-use Rattle.std.proofs.Math.Option.{Option, some, none}
+use Rattle.std.specs.Prelude.{◌≡◌, ℕ, ◌+◌, ◌*◌, ◌<◌, ◌≤◌, Bool, cond, ◌&&◌, ◌⊎◌, List, [], length, ◌≢◌, nat_le, nat_lt, slice_index, slice_index_or, slice_set, Option, Some, None}
 use Rattle.grammar.specs.Grammar.{Grammar}
 use Rattle.grammar.specs.Items.{Completes, origin, Move, Waits}
 use Rattle.grammar.specs.States.{Automaton, Reached}
@@ -22,7 +21,7 @@ unfoldable pub has_at : ℕ → List (List Bool) → ℕ → ℕ → ℕ → Boo
 has_at n sets s r d = nat_lt s n && items_of (state_at sets s) r d
 
 unfoldable pub leads_at : Grammar → ℕ → List ℕ → ℕ → ℕ → Option ℕ
-leads_at G n gotos s X = cond (nat_lt s n && (nat_le 1 X && (nat_le X (G.terminals + G.nonterminals) && nat_lt (goto_at gotos s X) n))) (some (goto_at gotos s X)) none
+leads_at G n gotos s X = cond (nat_lt s n && (nat_le 1 X && (nat_le X (G.terminals + G.nonterminals) && nat_lt (goto_at gotos s X) n))) (Some (goto_at gotos s X)) None
 
 abbrev pub automaton_of : Grammar → ℕ → List (List Bool) → List ℕ → Automaton
 automaton_of G n sets gotos = record { has = has_at n sets; goto = leads_at G n gotos }

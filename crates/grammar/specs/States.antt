@@ -1,6 +1,5 @@
 -- The numbered states. The end mark makes no state: no right side has it.
-use Rattle.std.specs.Prelude.{◌≡◌, ℕ, suc, ◌<◌, ◌≤◌, Bool, true, false, ◌⊎◌, ◌≢◌}
-use Rattle.std.proofs.Math.Option.{Option, some}
+use Rattle.std.specs.Prelude.{◌≡◌, ℕ, suc, ◌<◌, ◌≤◌, Bool, true, false, ◌⊎◌, ◌≢◌, Option, Some}
 use Rattle.grammar.specs.Grammar.{Grammar, IsRule, left_side}
 use Rattle.grammar.specs.Items.{Items, Same, CodeAt, Completes, origin, Move, Waits}
 
@@ -29,16 +28,16 @@ pub record Met (A : Automaton) (t : ℕ) : Type 0 where
   pub state : ℕ
   pub code : ℕ
   pub lower : state < t
-  pub here : A.goto state code ≡ some t
-  pub before : (p X u : ℕ) → Earlier p X state code → A.goto p X ≡ some u → u < t
+  pub here : A.goto state code ≡ Some t
+  pub before : (p X u : ℕ) → Earlier p X state code → A.goto p X ≡ Some u → u < t
 
 -- n states, numbered: state 0 from rule 0; states taken by rising number and the codes of each by rising code; a set met before keeps its number.
 pub record Numbered (G : Grammar) (n : ℕ) (A : Automaton) : Type 0 where
   pub some_state : 1 ≤ n
   pub begins : Completes G origin (A.has 0)
   pub apart : (s t : ℕ) → s < n → t < n → Same (A.has s) (A.has t) → s ≡ t
-  pub moves : (s X : ℕ) → s < n → Waits G (A.has s) X → (t : ℕ) × (A.goto s X ≡ some t) × (t < n) × Move G (A.has s) X (A.has t)
-  pub only : (s X t : ℕ) → A.goto s X ≡ some t → (s < n) × Waits G (A.has s) X
+  pub moves : (s X : ℕ) → s < n → Waits G (A.has s) X → (t : ℕ) × (A.goto s X ≡ Some t) × (t < n) × Move G (A.has s) X (A.has t)
+  pub only : (s X t : ℕ) → A.goto s X ≡ Some t → (s < n) × Waits G (A.has s) X
   pub met : (t : ℕ) → 1 ≤ t → t < n → Met A t
   pub outside : (s r d : ℕ) → n ≤ s → A.has s r d ≡ false
 
@@ -57,8 +56,8 @@ pub data Made (G : Grammar) (has : ℕ → ℕ → ℕ → Bool) : ℕ → ℕ �
 pub record Laws (G : Grammar) (A : Automaton) : Type 0 where
   pub first : A.has 0 0 0 ≡ true
   pub closed : {s r d q : ℕ} → A.has s r d ≡ true → CodeAt G r d (left_side G q) → IsRule G q → A.has s q 0 ≡ true
-  pub moves : {s r d X : ℕ} → A.has s r d ≡ true → CodeAt G r d X → (t : ℕ) × (A.goto s X ≡ some t) × (A.has t r (suc d) ≡ true)
-  pub came : {s t X r d : ℕ} → A.goto s X ≡ some t → A.has t r (suc d) ≡ true → CodeAt G r d X × (A.has s r d ≡ true)
-  pub target : {s t X : ℕ} → A.goto s X ≡ some t → (r d : ℕ) × (A.has t r (suc d) ≡ true)
+  pub moves : {s r d X : ℕ} → A.has s r d ≡ true → CodeAt G r d X → (t : ℕ) × (A.goto s X ≡ Some t) × (A.has t r (suc d) ≡ true)
+  pub came : {s t X r d : ℕ} → A.goto s X ≡ Some t → A.has t r (suc d) ≡ true → CodeAt G r d X × (A.has s r d ≡ true)
+  pub target : {s t X : ℕ} → A.goto s X ≡ Some t → (r d : ℕ) × (A.has t r (suc d) ≡ true)
   pub made : {s r d : ℕ} → A.has s r d ≡ true → Made G A.has s r d
   pub fresh : {r d : ℕ} → A.has 0 r (suc d) ≢ true

@@ -1,6 +1,5 @@
 -- What is proved of the definitions, and nothing else.
-use Rattle.std.specs.Prelude.{◌≡◌, ℕ, ◌+◌, ◌<◌, ◌≤◌, ◌↔◌, List, [], ◌∷◌, ◌++◌, reverse, length, drop}
-use Rattle.std.proofs.Math.Option.{Option, some}
+use Rattle.std.specs.Prelude.{◌≡◌, ℕ, ◌+◌, ◌<◌, ◌≤◌, ◌↔◌, List, [], ◌∷◌, ◌++◌, reverse, length, drop, Option, Some}
 use Rattle.grammar.specs.Grammar.{Grammar, Valid, left_side, right_side}
 use Rattle.grammar.specs.Trees.{TreeOf, AllProductive}
 use Rattle.grammar.specs.Derivation.{Derives, ShortSentence, Begins, Rightmost, derive}
@@ -31,7 +30,7 @@ Soundness = (G : Grammar) (n : ℕ) (A : Automaton) → Given G n A → (ws ps :
 
 -- Wherever the machine stands, a reduction finds its states on the stack and its goto.
 abbrev pub NeverStuck : Type 0
-NeverStuck = (G : Grammar) (n : ℕ) (A : Automaton) → Given G n A → (ws j ps σ : List ℕ) (s w r : ℕ) → Run G A (0 ∷ []) (ws ++ j) ps (s ∷ σ) j → Holds G A s w (Reduce r) → (q : ℕ) × (ρ : List ℕ) × (t : ℕ) × (drop (length (right_side G r)) (s ∷ σ) ≡ q ∷ ρ) × (A.goto q (left_side G r) ≡ some t)
+NeverStuck = (G : Grammar) (n : ℕ) (A : Automaton) → Given G n A → (ws j ps σ : List ℕ) (s w r : ℕ) → Run G A (0 ∷ []) (ws ++ j) ps (s ∷ σ) j → Holds G A s w (Reduce r) → (q : ℕ) × (ρ : List ℕ) × (t : ℕ) × (drop (length (right_side G r)) (s ∷ σ) ≡ q ∷ ρ) × (A.goto q (left_side G r) ≡ Some t)
 
 -- What was taken begins a sentence, where every nonterminal is productive.
 abbrev pub ViablePrefix : Type 0
@@ -39,7 +38,7 @@ ViablePrefix = (G : Grammar) (n : ℕ) (A : Automaton) → Given G n A → AllPr
 
 -- A word is taken wherever some sentence goes on so: the machine, run on anything that begins with the words of a sentence, gets behind them.
 abbrev pub Taken : Type 0
-Taken = (G : Grammar) (n : ℕ) (A : Automaton) → Given G n A → ConflictFree G A → (ws j : List ℕ) (w : ℕ) → Begins G (ws ++ w ∷ []) → (ps τ : List ℕ) × Run G A (0 ∷ []) (ws ++ w ∷ j) ps τ j
+Taken = (G : Grammar) (n : ℕ) (A : Automaton) → Given G n A → (ws j : List ℕ) (w : ℕ) → Begins G (ws ++ w ∷ []) → (ps τ : List ℕ) × Run G A (0 ∷ []) (ws ++ w ∷ j) ps τ j
 
 -- A list of rules is a rightmost derivation exactly when its reverse is the post-order of a tree.
 abbrev pub Postorder : Type 0
@@ -47,7 +46,7 @@ Postorder = (G : Grammar) → Valid G → (ds ws : List ℕ) → Derives G ds ws
 
 -- Replacing the last nonterminal step by step is the same relation.
 abbrev pub Stepwise : Type 0
-Stepwise = (G : Grammar) → Valid G → (ds form ws : List ℕ) → (derive G ds form ≡ some ws) ↔ Rightmost G form ds ws
+Stepwise = (G : Grammar) → Valid G → (ds form ws : List ℕ) → (derive G ds form ≡ Some ws) ↔ Rightmost G form ds ws
 
 -- An open line is judged good exactly when its words are a sentence with at most 768 derivation steps; its rules are then that derivation, reversed.
 abbrev pub JudgedGood : Type 0
@@ -62,7 +61,7 @@ WordTaken = (G : Grammar) (n : ℕ) (A : Automaton) (cells : ℕ → ℕ → Opt
 
 -- An open line has at most 1,025 states.
 abbrev pub Depth : Type 0
-Depth = (G : Grammar) (n : ℕ) (A : Automaton) (cells : ℕ → ℕ → Option Action) → Given G n A → Exact G A cells → (l : Line) → Open G A cells l → (length l.words ≤ 256) × (length l.rules ≤ 768) × (length l.states ≤ 1 + length l.words + length l.rules)
+Depth = (G : Grammar) (A : Automaton) (cells : ℕ → ℕ → Option Action) → Exact G A cells → (l : Line) → Open G A cells l → (length l.words ≤ 256) × (length l.rules ≤ 768) × (length l.states ≤ 1 + length l.words + length l.rules)
 
 -- The numbered states are exactly the sets reached by moves from state 0, each once.
 pub record Listed (G : Grammar) (n : ℕ) (A : Automaton) (S : Items) : Type 0 where

@@ -1,5 +1,5 @@
 -- Trees of a grammar, listed side by side as forests.
-use Rattle.std.specs.Prelude.{ℕ, List, [], ◌∷◌, ◌++◌}
+use Rattle.std.specs.Prelude.{ℕ, List, [], ◌∷◌, ◌++◌, All}
 use Rattle.grammar.specs.Grammar.{Grammar, IsTerminal, IsRule, IsNonterminal, left_side, right_side, start}
 
 -- Forest G Xs ws ps: trees with the codes Xs at their roots and the words ws at their leaves; ps are the rules used, in post-order.
@@ -21,8 +21,7 @@ abbrev pub Nullable : Grammar → ℕ → Type 0
 Nullable G X = (ps : List ℕ) × Tree G X [] ps
 
 abbrev pub AllNullable : Grammar → List ℕ → Type 0
-AllNullable G [] = Unit {0}
-AllNullable G (X ∷ Xs) = Nullable G X × AllNullable G Xs
+AllNullable G Xs = All (Nullable G) Xs
 
 -- The code derives some list of words.
 abbrev pub Productive : Grammar → ℕ → Type 0

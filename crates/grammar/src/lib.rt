@@ -4,6 +4,8 @@
 mod action;
 mod numbering;
 mod refusal;
+#[cfg(test)]
+mod tests;
 mod theorems;
 
 pub use action::Action;

@@ -2,6 +2,8 @@ ghost use Rattle.grammar.specs.Refusals.{Told, told};
 ghost use Rattle.std.specs.Prelude.{◌≡◌};
 
 use super::action::Action;
+use std::error::Error;
+use std::fmt;
 
 // Why a call was refused; docs/REFUSALS.md has each case in full.
 #[derive(Clone, Copy, PartialEq, Eq, Debug)]
@@ -52,23 +54,18 @@ pub enum Refusal {
 }
 
 impl Refusal {
-    // The refusal's number.
+    // The refusal's number. A cast gives none, since variants have fields.
     pub fn number(&self) -> u8
         ensures { result ≡ (told self.now).number }
     {
         match self {
-            Refusal::Layout { rule: _ } => 1,
-            Refusal::Form { place: _ } => 2,
+            Refusal::Layout { .. } => 1,
+            Refusal::Form { .. } => 2,
             Refusal::Limits => 3,
-            Refusal::Range { rule: _ } => 4,
-            Refusal::Useless { nonterminal: _ } => 5,
+            Refusal::Range { .. } => 4,
+            Refusal::Useless { .. } => 5,
             Refusal::States => 6,
-            Refusal::Conflict {
-                state: _,
-                word: _,
-                first: _,
-                second: _,
-            } => 7,
+            Refusal::Conflict { .. } => 7,
             Refusal::Blank => 8,
             Refusal::NoDesigner => 9,
             Refusal::Status => 10,
@@ -80,3 +77,31 @@ impl Refusal {
         }
     }
 }
+
+// The number, and the told values behind spaces.
+impl fmt::Display for Refusal {
+    ghost use Rattle.std.specs.Prelude.{Some};
+    ghost use Rattle.grammar.specs.Refusals.{told};
+    ghost use Rattle.grammar.specs.Texts.{told_text};
+
+    ghost output = { λ r. Some (told_text (told r)) };
+
+    fn fmt<W: fmt::Write>(&self, f: &mut fmt::Formatter<W>) -> fmt::Result {
+        let number = self.number();
+        match self {
+            Refusal::Layout { rule } => write!(f, "{number} {rule}"),
+            Refusal::Form { place } => write!(f, "{number} {place}"),
+            Refusal::Range { rule } => write!(f, "{number} {rule}"),
+            Refusal::Useless { nonterminal } => write!(f, "{number} {nonterminal}"),
+            Refusal::Conflict {
+                state,
+                word,
+                first,
+                second,
+            } => write!(f, "{number} {state} {word} {first} {second}"),
+            _ => write!(f, "{number}"),
+        }
+    }
+}
+
+impl Error for Refusal {}

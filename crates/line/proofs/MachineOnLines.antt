@@ -1,6 +1,5 @@
 -- The machine on lines, reduction by reduction.
-use Rattle.std.proofs.Common.{◌≡◌, ℕ, suc, ◌+◌, ◌-◌, ◌<◌, ◌≤◌, Bool, true, false, cond, leb, List, [], ◌∷◌, ◌++◌, length, drop, Some, None, Ok, Err, sym, refl, ap, ◌∙◌, subst, inl, inr, arith}
-use mathlib.Core.Option.{Option, some, none}
+use Rattle.std.proofs.Common.{◌≡◌, ℕ, suc, ◌+◌, ◌-◌, ◌<◌, ◌≤◌, Bool, true, false, cond, leb, List, [], ◌∷◌, ◌++◌, length, drop, Ok, Err, sym, refl, ap, ◌∙◌, subst, inl, inr, arith, Option, Some, None}
 use Rattle.std.proofs.lemmas.List.{append_assoc, append-nil, length_push}
 use Rattle.std.proofs.lemmas.Bool.{cases_Bool, cond-true, cond-false, leb-true, leb-false}
 use Rattle.grammar.specs.Refusals.{told}
@@ -16,6 +15,7 @@ use Rattle.grammar.proofs.MachineSteps.{runs_none, runs_shift, runs_accept, runs
 use Rattle.tables.specs.Held.{Held, blank, holding}
 use Rattle.tables.specs.HeldReadings.{cell_of, goto_of, left_of, length_of}
 use Rattle.line.specs.declared.line.Line.{Line as Arrays}
+use Rattle.line.specs.declared.machine.Stop.TheVariants.{Shifted, Accepted}
 use Rattle.line.specs.Reductions.{landed, uncovered, by_left, by_length, reduction}
 use Rattle.line.specs.MachineRuns.{ends, Halted, Noted, Kept, Ran}
 use Rattle.line.proofs.HeldStates.{RuleIn}
@@ -37,14 +37,14 @@ module _ (G : Grammar) (n : ℕ) (A : Automaton) (cells : ℕ → ℕ → Option
 
   module _ (m : ℕ) (same : m ≡ 768 - length (l.rules ++ r ∷ [])) where
     lands : (σ : List ℕ) (o : Option ℕ) → Goes r (ends G A cells w) (landed l r σ o) (put_on (runs G A cells m w) r σ o)
-    lands σ none = refl
-    lands σ (some t) = ap (λ k. noted r (runs G A cells k w (t ∷ σ))) same
+    lands σ None = refl
+    lands σ (Some t) = ap (λ k. noted r (runs G A cells k w (t ∷ σ))) same
 
     uncovers : (σ : List ℕ) → Goes r (ends G A cells w) (uncovered H l r left σ) (go_on G A (runs G A cells m w) r σ)
     uncovers [] = refl
     uncovers (q ∷ σ) = lands (q ∷ σ) (A.goto q left)
 
-  module _ (s : ℕ) (σ : List ℕ) (rule : is_rule G r ≡ true) (top : l.states ≡ s ∷ σ) (cell : cells s w ≡ some (Reduce r)) where
+  module _ (s : ℕ) (σ : List ℕ) (rule : is_rule G r ≡ true) (top : l.states ≡ s ∷ σ) (cell : cells s w ≡ Some (Reduce r)) where
     in_room : (m : ℕ) → 768 - length l.rules ≡ suc m → ends G A cells w l ≡ go_on G A (runs G A cells m w) r (drop size l.states)
     unfolding runs
     in_room m e =
@@ -59,8 +59,8 @@ module _ (G : Grammar) (n : ℕ) (A : Automaton) (cells : ℕ → ℕ → Option
 
     by_rule : reduction H l r ≡ cond (leb 768 (length l.rules)) (refused 13) (uncovered H l r left (drop size l.states))
     by_rule =
-        ap (λ b. cond (leb 768 (length l.rules)) (refused 13) (by_length H l r (cond b (some size) none))) rule
-        ∙ ap (λ b. cond (leb 768 (length l.rules)) (refused 13) (by_left H l r size (cond b (some left) none))) rule
+        ap (λ b. cond (leb 768 (length l.rules)) (refused 13) (by_length H l r (cond b (Some size) None))) rule
+        ∙ ap (λ b. cond (leb 768 (length l.rules)) (refused 13) (by_left H l r size (cond b (Some left) None))) rule
 
     -- A cell that tells to reduce is followed by that reduction.
     pub machine_reduces : Goes r (ends G A cells w) (reduction H l r) (ends G A cells w l)
@@ -108,20 +108,20 @@ Notes l r (refused c) = Unit {0}
 
 module _ (h : Held) (l : Line) (r : ℕ) where
   notes_landed : (σ : List ℕ) (o : Option ℕ) → Notes l r (landed l r σ o)
-  notes_landed σ none = tt
-  notes_landed σ (some t) = record { words = refl; rules = refl }
+  notes_landed σ None = tt
+  notes_landed σ (Some t) = record { words = refl; rules = refl }
 
   notes_uncovered : (X : ℕ) (σ : List ℕ) → Notes l r (uncovered h l r X σ)
   notes_uncovered X [] = tt
   notes_uncovered X (q ∷ σ) = notes_landed (q ∷ σ) (goto_of h q X)
 
   notes_left : (k : ℕ) (o : Option ℕ) → Notes l r (by_left h l r k o)
-  notes_left k none = tt
-  notes_left k (some X) = notes_uncovered X (drop k l.states)
+  notes_left k None = tt
+  notes_left k (Some X) = notes_uncovered X (drop k l.states)
 
   notes_length : (o : Option ℕ) → Notes l r (by_length h l r o)
-  notes_length none = tt
-  notes_length (some k) = notes_left k (left_of h r)
+  notes_length None = tt
+  notes_length (Some k) = notes_left k (left_of h r)
 
   notes_room : (b : Bool) → Notes l r (cond b (refused 13) (by_length h l r (length_of h r)))
   notes_room true = tt
@@ -135,11 +135,11 @@ module _ (h : Held) (l : Line) (r : ℕ) where
   reduction_longer k e = ap length (reduction_notes k e).rules ∙ length_push l.rules r
 
 pub kept_on : {l k m : Arrays} → Kept l k → Kept k m → Kept l m
-kept_on p q = record { judged = q.judged ∙ p.judged; count = q.count ∙ p.count; steps = omega (arith, p.steps, q.steps) }
+kept_on p q = record { status = q.status ∙ p.status; count = q.count ∙ p.count; steps = omega (arith, p.steps, q.steps) }
 
 module _ (w s r : ℕ) (σ : List ℕ) where
   -- One reduction more.
-  pub midway_reduced : (h : Held) (l k m : Line) → RuleIn h r → k.states ≡ s ∷ σ → some (Reduce r) ≡ cell_of h s w → Midway h w l k → reduction h k r ≡ after m → Midway h w l m
+  pub midway_reduced : (h : Held) (l k m : Line) → RuleIn h r → k.states ≡ s ∷ σ → Some (Reduce r) ≡ cell_of h s w → Midway h w l k → reduction h k r ≡ after m → Midway h w l m
   midway_reduced blank l k m i top cell mid e = tt
   midway_reduced (holding G n A cells) l k m i top cell mid e =
       let on : ends G A cells w k ≡ noted r (ends G A cells w m) = subst (λ T. Goes r (ends G A cells w) T (ends G A cells w k)) e (machine_reduces G n A cells w r k s σ i top (sym cell)) in
@@ -151,7 +151,7 @@ module _ (w s r : ℕ) (σ : List ℕ) where
       }
 
   -- A reduction that is refused.
-  pub midway_refused : (h : Held) (l k m : Line) (e : Refusal) → RuleIn h r → k.states ≡ s ∷ σ → some (Reduce r) ≡ cell_of h s w → Midway h w l k → reduction h k r ≡ refused (told e).number → Ran h w l (Err e) m
+  pub midway_refused : (h : Held) (l k m : Line) (e : Refusal) → RuleIn h r → k.states ≡ s ∷ σ → Some (Reduce r) ≡ cell_of h s w → Midway h w l k → reduction h k r ≡ refused (told e).number → Ran h w l (Err e) m
   midway_refused blank l k m e i top cell mid x = tt
   midway_refused (holding G n A cells) l k m e i top cell mid x =
       let on : Halted (told e).number (ends G A cells w k) = subst (λ T. Goes r (ends G A cells w) T (ends G A cells w k)) x (machine_reduces G n A cells w r k s σ i top (sym cell)) in
@@ -159,21 +159,21 @@ module _ (w s r : ℕ) (σ : List ℕ) where
 
 module _ (w s : ℕ) (σ : List ℕ) where
   -- No action.
-  pub midway_none : (h : Held) (l k m : Line) → k.states ≡ s ∷ σ → none ≡ cell_of h s w → Midway h w l k → Ran h w l (Err NoAction) m
+  pub midway_none : (h : Held) (l k m : Line) → k.states ≡ s ∷ σ → None ≡ cell_of h s w → Midway h w l k → Ran h w l (Err NoAction) m
   midway_none blank l k m top cell mid = tt
   midway_none (holding G n A cells) l k m top cell mid =
       let on : ends G A cells w k ≡ stuck = ap (runs G A cells (768 - length k.rules) w) top ∙ runs_none G A cells w s σ (768 - length k.rules) (sym cell) in
       subst (Halted 14) (sym (mid.same ∙ ap (notes mid.steps) on ∙ notes_stuck mid.steps)) refl
 
   -- A shift.
-  pub midway_shift : (h : Held) (l k : Line) (t : ℕ) → k.states ≡ s ∷ σ → some (Shift t) ≡ cell_of h s w → Midway h w l k → Ran h w l (Ok (Some t)) k
+  pub midway_shift : (h : Held) (l k : Line) (t : ℕ) → k.states ≡ s ∷ σ → Some (Shift t) ≡ cell_of h s w → Midway h w l k → Ran h w l (Ok (Shifted t)) k
   midway_shift blank l k t top cell mid = tt
   midway_shift (holding G n A cells) l k t top cell mid =
       let on : ends G A cells w k ≡ shifted (t ∷ k.states) [] = ap (runs G A cells (768 - length k.rules) w) top ∙ runs_shift G A cells w s σ (768 - length k.rules) t (sym cell) ∙ ap (λ τ. shifted (t ∷ τ) []) (sym top) in
       (mid.steps, mid.noting, mid.same ∙ ap (notes mid.steps) on ∙ notes_shifted mid.steps (t ∷ k.states))
 
   -- An accept.
-  pub midway_accept : (h : Held) (l k : Line) → k.states ≡ s ∷ σ → some Accept ≡ cell_of h s w → Midway h w l k → Ran h w l (Ok None) k
+  pub midway_accept : (h : Held) (l k : Line) → k.states ≡ s ∷ σ → Some Accept ≡ cell_of h s w → Midway h w l k → Ran h w l (Ok Accepted) k
   midway_accept blank l k top cell mid = tt
   midway_accept (holding G n A cells) l k top cell mid =
       let on : ends G A cells w k ≡ accepted k.states [] = ap (runs G A cells (768 - length k.rules) w) top ∙ runs_accept G A cells w s σ (768 - length k.rules) (sym cell) ∙ ap (λ τ. accepted τ []) (sym top) in

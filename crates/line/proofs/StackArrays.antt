@@ -1,6 +1,6 @@
 -- A stack in an array has its top last, and read as a list its top first.
 use Rattle.std.proofs.Common.{◌≡◌, ℕ, ◌+◌, ◌-◌, ◌<◌, ◌≤◌, Bool, List, [], ◌∷◌, ◌++◌, reverse, length, get_or, take, drop, set, sym, ap, ◌∙◌, arith}
-use Rattle.std.proofs.lemmas.List.{reverse-append, length-reverse, length-drop, length-take-le, take-append-drop, take-take, take_more, take_more_set, drop_at, drop_all}
+use Rattle.std.proofs.lemmas.List.{reverse-append, length-reverse, length-drop, length-take-le, take-append-drop, take-take, take_more, take_more_set, drop_at}
 use Rattle.line.specs.PlanLines.{PlanLine}
 
 -- The array's first n elements, the last first.
@@ -35,10 +35,6 @@ stack_under xs n k h l =
 -- A state put in the place of the topmost k.
 pub stack_replace : (xs : List ℕ) (n k x : ℕ) → k ≤ n → n ≤ length xs → n - k < length xs → stack (n - k + 1) (set xs (n - k) x) ≡ x ∷ drop k (stack n xs)
 stack_replace xs n k x h l m = stack_put xs (n - k) x m ∙ ap (λ ρ. x ∷ ρ) (sym (stack_off xs n k h l))
-
--- All of them off.
-pub stack_gone : (xs : List ℕ) (n k : ℕ) → n ≤ k → n ≤ length xs → drop k (stack n xs) ≡ []
-stack_gone xs n k h l = drop_all k (stack n xs) (omega (arith, length-reverse (take n xs), length-take-le n xs l))
 
 abbrev plan_line : Bool → List ℕ → List ℕ → List ℕ → PlanLine
 plan_line judged σ ws ps = record { judged = judged; line = record { states = σ; words = ws; rules = ps } }

@@ -1,6 +1,8 @@
 -- The turns of one line.
-use Rattle.std.specs.Prelude.{ℕ, ◌-◌, true, false, cond, length}
+use Rattle.std.specs.Prelude.{◌≡◌, ℕ, ◌-◌, Bool, true, false, cond, length, Ok, Err, Result}
 use Rattle.grammar.specs.Line.{Turned, after, take_word, judge_line}
+use Rattle.grammar.specs.declared.refusal.Refusal.{Refusal}
+use Rattle.grammar.specs.declared.refusal.Refusal.TheVariants.{Blank, Status}
 use Rattle.tables.specs.Held.{Held, blank, holding}
 use Rattle.line.specs.Answers.{Answer, given, refused}
 use Rattle.line.specs.PlanLines.{PlanLine}
@@ -9,6 +11,12 @@ use Rattle.line.specs.PlanLines.{PlanLine}
 pub record LineTurn (B : Type 0) : Type 0 where
   pub answer : Answer B
   pub next : PlanLine
+
+-- A turn is allowed where the tables are not blank and the line is open.
+abbrev pub Allowed : Held → Bool → Result (Unit {0}) Refusal → Type 0
+Allowed blank judged r = r ≡ Err Blank
+Allowed (holding G n A cells) true r = r ≡ Err Status
+Allowed (holding G n A cells) false r = r ≡ Ok tt
 
 -- A refused turn leaves the line as it was.
 abbrev pub refusing : {B : Type 0} → PlanLine → ℕ → LineTurn B

@@ -1,6 +1,5 @@
 -- How the machine ends on a line.
-use Rattle.std.specs.Prelude.{◌≡◌, ℕ, ◌-◌, ◌≤◌, List, ◌∷◌, ◌++◌, length, Some, None, Ok, Err, Option, Result}
-use Rattle.std.proofs.Math.Option.{Option as Maybe}
+use Rattle.std.specs.Prelude.{◌≡◌, ℕ, ◌-◌, ◌≤◌, List, ◌∷◌, ◌++◌, length, Ok, Err, Result, Option}
 use Rattle.grammar.specs.Grammar.{Grammar}
 use Rattle.grammar.specs.States.{Automaton}
 use Rattle.grammar.specs.Line.{Line, Ended, stuck, full, shifted, accepted, runs, after_word, after_judging}
@@ -9,11 +8,13 @@ use Rattle.grammar.specs.declared.action.Action.{Action}
 use Rattle.grammar.specs.declared.refusal.Refusal.{Refusal}
 use Rattle.tables.specs.Held.{Held, blank, holding}
 use Rattle.line.specs.declared.line.Line.{Line as Arrays}
+use Rattle.line.specs.declared.machine.Stop.{Stop}
+use Rattle.line.specs.declared.machine.Stop.TheVariants.{Shifted, Accepted}
 use Rattle.line.specs.PlanLines.{PlanLine}
 use Rattle.line.specs.LineTurns.{LineTurn, word_turned, judge_turned}
 
 -- The machine ends so, at a word or the end mark, where it stands on a line.
-abbrev pub ends : Grammar → Automaton → (ℕ → ℕ → Maybe Action) → ℕ → Line → Ended
+abbrev pub ends : Grammar → Automaton → (ℕ → ℕ → Option Action) → ℕ → Line → Ended
 ends G A cells w l = runs G A cells (768 - length l.rules) w l.states
 
 -- The number of the refusal that tells an end without a shift or an accept.
@@ -30,18 +31,18 @@ pub record Noted (l k : Line) (ps : List ℕ) : Type 0 where
 
 -- Between two lines in arrays only states and rules came.
 pub record Kept (l k : Arrays) : Type 0 where
-  pub judged : k.judged ≡ l.judged
+  pub status : k.status ≡ l.status
   pub count : k.count ≡ l.count
   pub steps : l.steps ≤ k.steps
 
 -- An end at which the machine stands on the line k: it would shift to a state, or it accepts, or it halts.
-abbrev pub EndsAt : Line → Result (Option ℕ) Refusal → Line → Ended → Type 0
-EndsAt l (Ok (Some t)) k o = (ps : List ℕ) × Noted l k ps × (o ≡ shifted (t ∷ k.states) ps)
-EndsAt l (Ok None) k o = (ps : List ℕ) × Noted l k ps × (o ≡ accepted k.states ps)
+abbrev pub EndsAt : Line → Result Stop Refusal → Line → Ended → Type 0
+EndsAt l (Ok (Shifted t)) k o = (ps : List ℕ) × Noted l k ps × (o ≡ shifted (t ∷ k.states) ps)
+EndsAt l (Ok Accepted) k o = (ps : List ℕ) × Noted l k ps × (o ≡ accepted k.states ps)
 EndsAt l (Err e) k o = Halted (told e).number o
 
 -- The machine, run on the line l, ends on the line k.
-abbrev pub Ran : Held → ℕ → Line → Result (Option ℕ) Refusal → Line → Type 0
+abbrev pub Ran : Held → ℕ → Line → Result Stop Refusal → Line → Type 0
 Ran blank w l r k = Unit {0}
 Ran (holding G n A cells) w l r k = EndsAt l r k (ends G A cells w l)
 

@@ -5,7 +5,9 @@ mod line;
 mod machine;
 mod readings;
 mod stack;
+mod status;
 mod trial;
 mod turns;
 
 pub use line::Line;
+pub use status::Status;

@@ -1,7 +1,10 @@
 // A designer's line, in fixed arrays.
 ghost use Rattle.std.specs.Prelude.{◌≡◌, ◌+◌, ◌≤◌, length};
 
+use super::status::Status;
+
 // `states` has its top at depth - 1. Each state but the first came with a word or a noted rule, so that 1025 places suffice.
+// The three arrays with their counts are how the project lays out a line in fixed memory.
 #[derive(Clone, Copy)]
 pub struct Line {
     pub(crate) states: [u8; 1025],
@@ -10,7 +13,7 @@ pub struct Line {
     pub(crate) count: usize,
     pub(crate) rules: [u8; 768],
     pub(crate) steps: usize,
-    pub(crate) judged: bool,
+    pub(crate) status: Status,
     ghost stateslength: { length states ≡ 1025 },
     ghost wordslength: { length words ≡ 256 },
     ghost ruleslength: { length rules ≡ 768 },

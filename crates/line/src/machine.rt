@@ -9,8 +9,17 @@ use super::line::Line;
 use grammar::{Action, Refusal};
 use tables::Tables;
 
+// Not an option, since to accept is an answer of its own and not the lack of a state.
+// Where the machine stops with no refusal: at a word that it takes, with the state that it goes on to, or at the end of a line that it accepts.
+#[derive(Clone, Copy)]
+pub(crate) enum Stop {
+    Shifted(u8),
+    Accepted,
+}
+
 impl Line {
     // Reduces by a rule: 13 where 768 rules are noted, 14 where states or a goto are lacking.
+    #[tactic(auto, using(crate::proofs::HeldStates::goto_below))]
     pub(crate) fn reduce(&mut self, tables: &Tables, rule: u8) -> Result<(), Refusal>
         ensures reduced { reduction (held tables.now) (plan_line_of self.old).line rule ≡ turned_to result (plan_line_of self.new).line }
         ensures kept { Kept self.old self.new }
@@ -18,31 +27,26 @@ impl Line {
         if self.steps == 768 {
             return Err(Refusal::Reductions);
         }
-        let Some(length) = tables.length(rule as usize) else {
-            return Err(Refusal::NoAction);
-        };
-        let Some(left) = tables.left(rule as usize) else {
-            return Err(Refusal::NoAction);
-        };
-        let Some(state) = self.under(length) else {
-            return Err(Refusal::NoAction);
-        };
-        let Some(to) = tables.goto(state as usize, left as usize) else {
-            return Err(Refusal::NoAction);
-        };
+        let length = tables.length(usize::from(rule)).ok_or(Refusal::NoAction)?;
+        let left = tables.left(usize::from(rule)).ok_or(Refusal::NoAction)?;
+        let state = self.under(length).ok_or(Refusal::NoAction)?;
+        let to = tables
+            .goto(usize::from(state), usize::from(left))
+            .ok_or(Refusal::NoAction)?;
         self.replace(length, to as u8, rule);
         Ok(())
     }
 
-    // Runs the machine at a word, or at the end mark 0, up to a shift, whose state is told, or to an accept.
-    pub(crate) fn run(&mut self, tables: &Tables, word: usize) -> Result<Option<u8>, Refusal>
+    // Runs the machine at a word, or at the end mark 0, up to a shift or an accept.
+    pub(crate) fn run(&mut self, tables: &Tables, word: u8) -> Result<Stop, Refusal>
         ensures ran { Ran (held tables.now) word (plan_line_of self.old).line result (plan_line_of self.new).line }
         ensures kept { Kept self.old self.new }
     {
+        // Each round but the last reduces; a `for` over the 768 would need an answer behind its end that no call comes to.
         loop {
-            match tables.cell(self.top() as usize, word) {
-                Some(Action::Shift(to)) => return Ok(Some(to)),
-                Some(Action::Accept) => return Ok(None),
+            match tables.cell(usize::from(self.top()), usize::from(word)) {
+                Some(Action::Shift(to)) => return Ok(Stop::Shifted(to)),
+                Some(Action::Accept) => return Ok(Stop::Accepted),
                 Some(Action::Reduce(rule)) => self.reduce(tables, rule)?,
                 None => return Err(Refusal::NoAction),
             }

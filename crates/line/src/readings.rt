@@ -1,8 +1,9 @@
 // A fresh line, and what a line tells.
 ghost use Rattle.std.specs.Prelude.{◌≡◌, ◌≤◌, length};
-ghost use Rattle.line.specs.PlanLines.{fresh_plan_line, plan_line_of};
+ghost use Rattle.line.specs.PlanLines.{fresh_plan_line, is_judged, plan_line_of};
 
 use super::line::Line;
+use super::status::Status;
 
 impl Line {
     // An open line without words, in state 0.
@@ -16,7 +17,7 @@ impl Line {
             count: 0,
             rules: [0; 768],
             steps: 0,
-            judged: false,
+            status: Status::Open,
         }
     }
 
@@ -24,7 +25,14 @@ impl Line {
     pub fn is_judged(&self) -> bool
         ensures { result ≡ (plan_line_of self.now).judged }
     {
-        self.judged
+        matches!(self.status, Status::Judged)
+    }
+
+    // Whether the line is open or judged.
+    pub fn status(&self) -> Status
+        ensures { is_judged result ≡ (plan_line_of self.now).judged }
+    {
+        self.status
     }
 
     // The words taken, the oldest first.
@@ -32,7 +40,7 @@ impl Line {
         ensures words { result.now ≡ (plan_line_of self.now).line.words }
         ensures few { length result.now ≤ 256 }
     {
-        &self.words[0..self.count]
+        &self.words[..self.count]
     }
 
     // The rules noted, the oldest first.
@@ -40,6 +48,6 @@ impl Line {
         ensures rules { result.now ≡ (plan_line_of self.now).line.rules }
         ensures few { length result.now ≤ 768 }
     {
-        &self.rules[0..self.steps]
+        &self.rules[..self.steps]
     }
 }

@@ -19,11 +19,8 @@ impl Line {
         ensures under { Under (plan_line_of self.now).line.states length result }
         ensures within { is_some result ≡ true → length < self.now.depth }
     {
-        let length = length as usize;
-        if length < self.depth {
-            return Some(self.states[self.depth - length - 1]);
-        }
-        None
+        let place = self.depth.checked_sub(usize::from(length) + 1)?;
+        Some(self.states[place])
     }
 
     // Puts a state in the place of the topmost `length`, and notes the rule.
@@ -33,7 +30,7 @@ impl Line {
         ensures replaced { plan_line_of self.new ≡ replaced (plan_line_of self.old) length to rule }
         ensures kept { Kept self.old self.new }
     {
-        let place = self.depth - length as usize;
+        let place = self.depth - usize::from(length);
         self.states[place] = to;
         self.rules[self.steps] = rule;
         self.depth = place + 1;

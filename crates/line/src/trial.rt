@@ -1,26 +1,22 @@
 // A trial on a line: unless it is kept, the line is put back as it stood.
-ghost use Rattle.std.specs.Prelude.{◌≡◌, true, false, if◌then◌else◌};
+ghost use Rattle.std.specs.Prelude.{◌≡◌, None, Some, unwrap_or};
 
 use super::line::Line;
 
+// `before` is the line as it stood, while the trial is not kept.
 pub(crate) struct Trial<'a> {
     pub(crate) line: &'a mut Line,
-    kept: Line,
-    done: bool,
+    before: Option<Line>,
 }
 
 impl Drop for Trial<'_> {
     fn drop(self)
-        ensures { self.exit.0.now ≡ (if self.entry.done then self.entry.line.now else self.entry.kept) }
+        ensures { self.exit.0.now ≡ unwrap_or self.entry.before self.entry.line.now }
     {
-        if !self.done {
-            *self.line = self.kept;
+        let Trial { line, before } = self;
+        if let Some(before) = before {
+            *line = before;
         }
-        let Trial {
-            line: _,
-            kept: _,
-            done: _,
-        } = self;
     }
 }
 
@@ -29,23 +25,18 @@ impl<'a> Trial<'a> {
     pub(crate) fn start(line: &'a mut Line) -> Trial<'a>
         ensures same { result.line.ghost_name ≡ line.entry.ghost_name }
         ensures held { result.line.now ≡ line.old }
-        ensures kept { result.kept ≡ line.old }
-        ensures open { result.done ≡ false }
+        ensures before { result.before ≡ Some line.old }
     {
-        let kept = *line;
-        Trial {
-            line,
-            kept,
-            done: false,
-        }
+        let before = Some(*line);
+        Trial { line, before }
     }
 
     // Keeps what the trial did.
     pub(crate) fn keep(&mut self)
         ensures same { self.new.line.ghost_name ≡ self.old.line.ghost_name }
         ensures held { self.new.line.now ≡ self.old.line.now }
-        ensures done { self.new.done ≡ true }
+        ensures kept { self.new.before ≡ None }
     {
-        self.done = true;
+        self.before = None;
     }
 }

@@ -1,7 +1,6 @@
 -- Slips booked.
-use Rattle.std.proofs.Common.{◌≡◌, ℕ, ◌+◌, ◌-◌, ◌^◌, ◌<◌, ◌≤◌, min, true, not, ltb, List, [], ◌∷◌, ◌++◌, reverse, length, sym, refl, ap, ◌∙◌, subst, subst₂, append_assoc, append-nil, add-zero, arith, length-append, ltb-false, ltb-true}
+use Rattle.std.proofs.Common.{◌≡◌, ℕ, ◌+◌, ◌-◌, ◌^◌, ◌<◌, ◌≤◌, min, true, not, ltb, List, [], ◌∷◌, ◌++◌, reverse, length, sym, refl, ap, ◌∙◌, subst, subst₂, append_assoc, append-nil, add-zero, arith, length-append, ltb-false, ltb-true, Option}
 use mathlib.Core.List.{reverse-reverse}
-use mathlib.Core.Option.{Option}
 use borrow.Author.Tests.{not-true, not-false}
 use Rattle.std.proofs.lemmas.Bool.{cond_both}
 use Rattle.grammar.specs.Grammar.{Grammar, Valid}
@@ -24,7 +23,7 @@ use Rattle.plan.specs.RightAnswers.{Ready, Unready, no_designer, other_status, b
 use Rattle.plan.specs.Model.{Model, BookStepped, plan_line, entry_of, booking, not_booking, book_turn}
 use Rattle.plan.specs.Shows.{account_line, Stands, Shows, Continues}
 use Rattle.plan.specs.Theorems.{TablesOf}
-use Rattle.plan.proofs.Unreadiness.{same_given, same_refused, not_given, not_ready, high_designer, low_designer}
+use Rattle.plan.proofs.Unreadiness.{not_ready, high_designer, low_designer}
 use Rattle.plan.proofs.EntryLists.{same_entry, entries_more}
 use Rattle.plan.proofs.ShownTurns.{line_shown, shown_same, shown_booked}
 
@@ -51,7 +50,7 @@ module _ (G : Grammar) (n : ℕ) (A : Automaton) (cells : ℕ → ℕ → Option
       let d = p.designer in
       let u' = subst (λ l. Unready true d l c) (sym (line_shown G A cells s d)) u in
       let w = s.law.written in
-      not_booked c (record { list = w.list; entries = w.entries; done = (λ y. absurd y, λ y. not_ready u' y.0); count = λ i x. absurd (not_given x); cause = λ i x. unready (subst (λ i. Unready true d (line_of (account turns) d) i) (same_refused x) u') })
+      not_booked c (record { list = w.list; entries = w.entries; done = (λ y. absurd y, λ y. not_ready u' y.0); count = λ i x. cc; cause = λ i x. unready (subst (λ i. Unready true d (line_of (account turns) d) i) (cc) u') })
 
   module _ (low : p.designer < 8) (judged : (plan_line m p.designer).judged ≡ true) where
     ready : Ready true p.designer (line_of (account turns) p.designer)
@@ -73,8 +72,8 @@ module _ (G : Grammar) (n : ℕ) (A : Automaton) (cells : ℕ → ℕ → Option
           list = w.list;
           entries = w.entries;
           done = (λ y. absurd y, λ y. omega (arith, over, y.1.2, ap length (same_entry y.1.1 the_entry)));
-          count = λ i x. absurd (not_given x);
-          cause = λ i x. subst (λ i. BookCause G n₀ (account turns) p.designer w.list i) (same_refused x) (no_room ready (entry_of m p.designer, the_entry, over));
+          count = λ i x. cc;
+          cause = λ i x. subst (λ i. BookCause G n₀ (account turns) p.designer w.list i) (cc) (no_room ready (entry_of m p.designer, the_entry, over));
         })
 
     booked : length (entry_of m p.designer) ≤ free → Booked (booking m p.designer)
@@ -91,8 +90,8 @@ module _ (G : Grammar) (n : ℕ) (A : Automaton) (cells : ℕ → ℕ → Option
           list = w.list;
           entries = w.entries;
           done = (λ y. (ready, (numbers, the_entry, fits)), λ y. tt);
-          count = λ i x. sym (same_given x) ∙ counts;
-          cause = λ i x. absurd (not_given (sym x));
+          count = λ i x. let q = counts in cc;
+          cause = λ i x. cc;
         })
         d count b refl (counts ∙ ap (λ i. min i (2 ^ 64 - 1)) (sym (length-append (account turns).booked (b ∷ []))))
         (record {

@@ -1,6 +1,5 @@
 -- Lines withdrawn or cleared.
-use Rattle.std.proofs.Common.{◌≡◌, ℕ, Bool, true, false, not, ltb, List, [], ◌∷◌, ◌++◌, sym, refl, subst}
-use mathlib.Core.Option.{Option}
+use Rattle.std.proofs.Common.{◌≡◌, ℕ, Bool, true, false, not, ltb, List, [], ◌∷◌, ◌++◌, sym, refl, subst, Option}
 use borrow.Author.Tests.{not-true, not-false}
 use Rattle.std.proofs.lemmas.Bool.{cond_both}
 use Rattle.grammar.specs.Grammar.{Grammar}
@@ -14,17 +13,17 @@ use Rattle.plan.specs.RightAnswers.{Ready, Unready, no_designer, other_status, R
 use Rattle.line.specs.PlanLines.{fresh_plan_line}
 use Rattle.plan.specs.Model.{Model, Stepped, plan_line, refusing, withdraw_turn, clear_turn}
 use Rattle.plan.specs.Shows.{account_line, Shows, Continues}
-use Rattle.plan.proofs.Unreadiness.{same_refused, not_given, not_ready, high_designer, low_designer}
+use Rattle.plan.proofs.Unreadiness.{not_ready, high_designer, low_designer}
 use Rattle.plan.proofs.ShownTurns.{line_shown, shown_same, shown_line}
 
 module _ {j : Bool} {d : ℕ} {l k : AccountLine} (e : l ≡ k) where
   right_refused : {c : ℕ} → Unready j d k c → RightFresh j d l (refused c)
   right_refused {c} u =
       subst (λ i. RightFresh j d i (refused c)) (sym e)
-      (record { done = (λ y. absurd y, λ y. not_ready u y); cause = λ n x. subst (λ i. Unready j d k i) (same_refused x) u })
+      (record { done = (λ y. absurd y, λ y. not_ready u y); cause = λ n x. subst (λ i. Unready j d k i) (cc) u })
 
   right_done : Ready j d k → RightFresh j d l (given tt)
-  right_done y = subst (λ i. RightFresh j d i (given tt)) (sym e) (record { done = (λ x. y, λ x. tt); cause = λ c x. absurd (not_given (sym x)) })
+  right_done y = subst (λ i. RightFresh j d i (given tt)) (sym e) (record { done = (λ x. y, λ x. tt); cause = λ c x. cc })
 
 module _ (G : Grammar) (A : Automaton) (cells : ℕ → ℕ → Option Action) {turns : List Turn} {b₀ : List ℕ} {n₀ : ℕ} {m : Model} {list : List ℕ} {free : ℕ} (s : Shows G A cells turns b₀ n₀ m list free) where
   abbrev Withdrawn : SlipModel → Stepped (Unit {0}) → Type 0

@@ -1,6 +1,5 @@
 -- Every history keeps the law: the opening shows no turn, and each call shows one turn more.
-use Rattle.std.proofs.Common.{ℕ, List, refl}
-use mathlib.Core.Option.{Option}
+use Rattle.std.proofs.Common.{ℕ, List, refl, Option}
 use Rattle.grammar.specs.Grammar.{Grammar}
 use Rattle.grammar.specs.States.{Automaton}
 use Rattle.grammar.specs.declared.action.Action.{Action}

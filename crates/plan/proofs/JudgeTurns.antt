@@ -1,6 +1,5 @@
 -- Lines judged.
-use Rattle.std.proofs.Common.{◌≡◌, ℕ, ◌-◌, Bool, true, false, ltb, List, [], ◌∷◌, ◌++◌, reverse, length, sym, refl, ap, ◌∙◌, subst}
-use mathlib.Core.Option.{Option}
+use Rattle.std.proofs.Common.{◌≡◌, ℕ, ◌-◌, Bool, true, false, ltb, List, [], ◌∷◌, ◌++◌, reverse, length, sym, refl, ap, ◌∙◌, subst, Option}
 use lib.ListN.{length-reverse}
 use Rattle.std.proofs.lemmas.Bool.{cond_both}
 use Rattle.grammar.specs.Grammar.{Grammar, Valid}
@@ -24,15 +23,12 @@ use Rattle.plan.specs.RightAnswers.{Ready, Unready, no_designer, other_status, J
 use Rattle.plan.specs.Model.{Model, Stepped, plan_line, refusing, judge_stepped, judge_turn}
 use Rattle.plan.specs.Shows.{account_line, Shows, Stands, Continues}
 use Rattle.plan.specs.Theorems.{TablesOf}
-use Rattle.plan.proofs.Unreadiness.{same_given, same_refused, not_given, not_ready, high_designer, low_designer}
+use Rattle.plan.proofs.Unreadiness.{not_ready, high_designer, low_designer}
 use Rattle.plan.proofs.ShownTurns.{line_shown, shown_same, shown_line}
-
-same_cause : {c d : ℕ} → Turned.refused c ≡ Turned.refused d → c ≡ d
-same_cause e = cc
 
 -- Not ready to be judged.
 judge_unready : {G : Grammar} {A : Automaton} (d : ℕ) {l : AccountLine} {c : ℕ} → Unready false d l c → RightJudge G A d l (refused c)
-judge_unready d {l} u = record { good = (λ y. absurd y, λ y. not_ready u y.0); slip = λ p ds e y. absurd (not_given e); cause = λ n e. unready (subst (λ i. Unready false d l i) (same_refused e) u) }
+judge_unready d {l} u = record { good = (λ y. absurd y, λ y. not_ready u y.0); slip = λ p ds e y. cc; cause = λ n e. unready (subst (λ i. Unready false d l i) (cc) u) }
 
 module _ {G : Grammar} {A : Automaton} (v : Valid G) (L : Laws G A) (cells : ℕ → ℕ → Option Action) (exact : Exact G A cells) (d : ℕ) where
   module _ (l : Line) (o : Open G A cells l) (j : Bool) (ready : Ready false d (record { judged = j; words = l.words })) where
@@ -43,19 +39,19 @@ module _ {G : Grammar} {A : Automaton} (v : Valid G) (L : Laws G A) (cells : ℕ
     judge_cause : (end : Ended) → judge_line G A cells l ≡ after_judging l end → (c : ℕ) → judge_line G A cells l ≡ Turned.refused c → JudgeCause G A d Seen c
     judge_cause stuck w c e =
         let st = standing G A cells exact o in
-        subst (λ i. JudgeCause G A d Seen i) (same_cause (sym w ∙ e)) (no_sentence ready (judged_14_few v L cells exact l st w) (judged_14 v L cells exact l st w))
+        subst (λ i. JudgeCause G A d Seen i) (cc) (no_sentence ready (judged_14_few v L cells exact l st w) (judged_14 v L cells exact l st w))
     judge_cause (shifted τ ps) w c e =
         let st = standing G A cells exact o in
-        subst (λ i. JudgeCause G A d Seen i) (same_cause (sym w ∙ e)) (no_sentence ready (judged_14_few v L cells exact l st w) (judged_14 v L cells exact l st w))
-    judge_cause full w c e = subst (λ i. JudgeCause G A d Seen i) (same_cause (sym w ∙ e)) (too_many ready (judged_13_many v L cells exact l (standing G A cells exact o) w))
+        subst (λ i. JudgeCause G A d Seen i) (cc) (no_sentence ready (judged_14_few v L cells exact l st w) (judged_14 v L cells exact l st w))
+    judge_cause full w c e = subst (λ i. JudgeCause G A d Seen i) (cc) (too_many ready (judged_13_many v L cells exact l (standing G A cells exact o) w))
     judge_cause (accepted τ ps) w c e = absurd (not_after (sym e ∙ w))
 
     judge_refused : (c : ℕ) → judge_line G A cells l ≡ Turned.refused c → RightJudge G A d Seen (refused c)
     judge_refused c e =
         record {
           good = (λ y. absurd y, λ y. not_after (sym e ∙ (short_judged v L cells exact l (standing G A cells exact o) y.1).1));
-          slip = λ p ds x y. absurd (not_given x);
-          cause = λ n x. subst (λ i. JudgeCause G A d Seen i) (same_refused x) (judge_cause (runs G A cells (768 - length l.rules) 0 l.states) refl c e);
+          slip = λ p ds x y. cc;
+          cause = λ n x. subst (λ i. JudgeCause G A d Seen i) (cc) (judge_cause (runs G A cells (768 - length l.rules) 0 l.states) refl c e);
         }
 
     judge_good : (k : Line) → judge_line G A cells l ≡ after k → RightJudge G A d Seen (given (record { designer = d; words = length k.words; steps = length k.rules }))
@@ -64,8 +60,8 @@ module _ {G : Grammar} {A : Automaton} (v : Valid G) (L : Laws G A) (cells : ℕ
         let steps : (ds : List ℕ) → Derives G ds l.words → length k.rules ≡ length ds = λ ds y. sym (ap length (one_derivation v L (conflict_free G A cells exact) l.words ds (reverse k.rules) y (judged_rules v L cells exact l st k e)) ∙ length-reverse k.rules) in
         record {
           good = (λ y. (ready, judged_short v L cells exact l st k e), λ y. tt);
-          slip = λ p ds x y. let w = judged_words G A cells l k e in let n = steps ds y in let q = same_given x in cc;
-          cause = λ n x. absurd (not_given (sym x));
+          slip = λ p ds x y. let w = judged_words G A cells l k e in let n = steps ds y in cc;
+          cause = λ n x. cc;
         }
 
 module _ (G : Grammar) (n : ℕ) (A : Automaton) (cells : ℕ → ℕ → Option Action) (T : TablesOf G n A cells) {turns : List Turn} {b₀ : List ℕ} {n₀ : ℕ} {m : Model} {list : List ℕ} {free : ℕ} (s : Shows G A cells turns b₀ n₀ m list free) (d : ℕ) where

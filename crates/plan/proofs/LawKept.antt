@@ -1,7 +1,6 @@
 -- Each call keeps the law, by its step.
-use Rattle.std.proofs.Common.{◌≡◌, ℕ, ◌+◌, List, [], ◌∷◌, ◌++◌, length, sym, refl, subst, append_assoc, append-nil}
+use Rattle.std.proofs.Common.{◌≡◌, ℕ, ◌+◌, List, [], ◌∷◌, ◌++◌, length, sym, refl, subst, append_assoc, append-nil, Option}
 use mathlib.Core.Logic.{∥∥₁_map, ∥∥₁_map₂}
-use mathlib.Core.Option.{Option}
 use Rattle.grammar.specs.Grammar.{Grammar}
 use Rattle.grammar.specs.States.{Automaton}
 use Rattle.grammar.specs.declared.action.Action.{Action}
@@ -13,10 +12,11 @@ use Rattle.line.specs.Answers.{Answer}
 use Rattle.plan.specs.Turns.{SlipModel, Turn, word, judge, book, withdraw, clear}
 use Rattle.plan.specs.Law.{Promises}
 use Rattle.plan.specs.Model.{Model, opened_model}
+use Rattle.plan.specs.Plans.{PlanValue, SameBook}
 use Rattle.plan.specs.Shows.{Shows, Continues}
 use Rattle.plan.specs.Theorems.{TablesOf}
 use Rattle.plan.specs.Calls.{word_call, judge_call, book_call, withdraw_call, clear_call}
-use Rattle.plan.specs.LawKept.{KeepsLaw, BeginsLaw}
+use Rattle.plan.specs.LawKept.{KeepsLaw, BeginsLaw, LawKept}
 use Rattle.plan.proofs.Promised.{promises}
 use Rattle.plan.proofs.ShownTurns.{opening}
 use Rattle.plan.proofs.WordTurns.{word_continues}
@@ -43,20 +43,20 @@ pub opened_kept : (h : Held) (list : List ℕ) (free : ℕ) → BeginsLaw h open
 opened_kept blank list free = tt
 opened_kept (holding G n A cells) list free = ∣ shown_kept (opening G A cells list free) ∣₁
 
-pub clear_kept : (h : Held) (m : Model) (list : List ℕ) (free d : ℕ) (x : Answer (Unit {0})) (m' : Model) → clear_call h m d ≡ record { answer = x; next = m' } → KeepsLaw h m list free (clear d x ∷ []) m' list free
+clear_kept : (h : Held) (m : Model) (list : List ℕ) (free d : ℕ) (x : Answer (Unit {0})) (m' : Model) → clear_call h m d ≡ record { answer = x; next = m' } → KeepsLaw h m list free (clear d x ∷ []) m' list free
 clear_kept h m list free d x m' e =
     kept_by m list free m' list free (clear d x) h (λ G n A cells i. ∣ clear_continues G A cells m list free d x m' (subst (λ k. clear_call k m d ≡ record { answer = x; next = m' }) i e) ∣₁)
 
-pub withdraw_kept : (h : Held) (m : Model) (list : List ℕ) (free : ℕ) (s : SlipModel) (x : Answer (Unit {0})) (m' : Model) → withdraw_call h m s ≡ record { answer = x; next = m' } → KeepsLaw h m list free (withdraw s x ∷ []) m' list free
+withdraw_kept : (h : Held) (m : Model) (list : List ℕ) (free : ℕ) (s : SlipModel) (x : Answer (Unit {0})) (m' : Model) → withdraw_call h m s ≡ record { answer = x; next = m' } → KeepsLaw h m list free (withdraw s x ∷ []) m' list free
 withdraw_kept h m list free s x m' e =
     kept_by m list free m' list free (withdraw s x) h (λ G n A cells i. ∣ withdraw_continues G A cells m list free s x m' (subst (λ k. withdraw_call k m s ≡ record { answer = x; next = m' }) i e) ∣₁)
 
-pub word_kept : (t : Tables) (m : Model) (list : List ℕ) (free d w : ℕ) (x : Answer ℕ) (m' : Model) → word_call (held t) m d w ≡ record { answer = x; next = m' } → KeepsLaw (held t) m list free (word d w x ∷ []) m' list free
+word_kept : (t : Tables) (m : Model) (list : List ℕ) (free d w : ℕ) (x : Answer ℕ) (m' : Model) → word_call (held t) m d w ≡ record { answer = x; next = m' } → KeepsLaw (held t) m list free (word d w x ∷ []) m' list free
 word_kept t m list free d w x m' e =
     kept_by m list free m' list free (word d w x) (held t) (λ G n A cells i.
     ∥∥₁_map (tables_of t G n A cells i) (λ T. word_continues G n A cells T m list free d w x m' (subst (λ k. word_call k m d w ≡ record { answer = x; next = m' }) i e)))
 
-pub judge_kept : (t : Tables) (m : Model) (list : List ℕ) (free d : ℕ) (x : Answer SlipModel) (m' : Model) → judge_call (held t) m d ≡ record { answer = x; next = m' } → KeepsLaw (held t) m list free (judge d x ∷ []) m' list free
+judge_kept : (t : Tables) (m : Model) (list : List ℕ) (free d : ℕ) (x : Answer SlipModel) (m' : Model) → judge_call (held t) m d ≡ record { answer = x; next = m' } → KeepsLaw (held t) m list free (judge d x ∷ []) m' list free
 judge_kept t m list free d x m' e =
     kept_by m list free m' list free (judge d x) (held t) (λ G n A cells i.
     ∥∥₁_map (tables_of t G n A cells i) (λ T. judge_continues G n A cells T m list free d x m' (subst (λ k. judge_call k m d ≡ record { answer = x; next = m' }) i e)))
@@ -76,3 +76,24 @@ then_kept blank m m' m'' list list' list'' free free' free'' ts us f g = tt
 then_kept (holding G n A cells) m m' m'' list list' list'' free free' free'' ts us f g = λ turns b₀ n₀ s.
     subst (λ l. ∥ Shows G A cells l b₀ n₀ m'' list'' free'' × Promises G A b₀ n₀ l list'' free'' ∥₁) (append_assoc turns ts us)
     (g (turns ++ ts) b₀ n₀ (∥∥₁_map (f turns b₀ n₀ s) (λ x. x.0)))
+
+-- A plan of these tables, this book and these lines.
+abbrev pub plan_of : {B : Type 0} → Tables → B → Model → PlanValue B
+plan_of t b m = record { tables = t; book = b; model = m }
+
+-- The same, between plans with the same tables and book.
+module _ {B : Type 0} (list : B → List ℕ) (free : B → ℕ) (p q : PlanValue B) (same : SameBook p q) where
+  same_book : (ts : List Turn) → KeepsLaw (held p.tables) p.model (list p.book) (free p.book) ts q.model (list p.book) (free p.book) → LawKept list free p ts q
+  same_book ts k = subst (λ b. KeepsLaw (held p.tables) p.model (list p.book) (free p.book) ts q.model (list b) (free b)) (sym same.1) k
+
+  pub word_law : (d w : ℕ) (x : Answer ℕ) → word_call (held p.tables) p.model d w ≡ record { answer = x; next = q.model } → LawKept list free p (word d w x ∷ []) q
+  word_law d w x e = same_book _ (word_kept p.tables p.model (list p.book) (free p.book) d w x q.model e)
+
+  pub judge_law : (d : ℕ) (x : Answer SlipModel) → judge_call (held p.tables) p.model d ≡ record { answer = x; next = q.model } → LawKept list free p (judge d x ∷ []) q
+  judge_law d x e = same_book _ (judge_kept p.tables p.model (list p.book) (free p.book) d x q.model e)
+
+  pub withdraw_law : (s : SlipModel) (x : Answer (Unit {0})) → withdraw_call (held p.tables) p.model s ≡ record { answer = x; next = q.model } → LawKept list free p (withdraw s x ∷ []) q
+  withdraw_law s x e = same_book _ (withdraw_kept (held p.tables) p.model (list p.book) (free p.book) s x q.model e)
+
+  pub clear_law : (d : ℕ) (x : Answer (Unit {0})) → clear_call (held p.tables) p.model d ≡ record { answer = x; next = q.model } → LawKept list free p (clear d x ∷ []) q
+  clear_law d x e = same_book _ (clear_kept (held p.tables) p.model (list p.book) (free p.book) d x q.model e)

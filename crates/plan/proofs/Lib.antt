@@ -1,4 +1,3 @@
-pub mod Copying
 pub mod LineCalls
 pub mod BookCalls
 pub mod SlipCalls

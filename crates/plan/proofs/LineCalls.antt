@@ -1,23 +1,21 @@
 -- Turns on one line as calls of the plan.
-use Rattle.std.proofs.Common.{◌≡◌, ℕ, ◌<◌, Bool, true, false, cond, not, ltb, List, map, length, get_or, set, Ok, Err, Result, sym, refl, ap, ◌∙◌, arith}
+use Rattle.std.proofs.Common.{◌≡◌, ℕ, ◌<◌, Bool, true, false, cond, not, ltb, List, map, length, get_or, set, Ok, sym, refl, ap, ◌∙◌, arith}
 use mathlib.Core.Bool.{beq}
 use Rattle.std.proofs.lemmas.List.{set-get_or, get_or-map, map-set}
-use Rattle.std.proofs.lemmas.Bool.{cond-true, cond-false, le-ltb}
+use Rattle.std.proofs.lemmas.Bool.{cond-false, le-ltb}
 use Rattle.grammar.specs.Line.{Turned, after, take_word, judge_line}
-use Rattle.grammar.specs.declared.refusal.Refusal.TheVariants.{Status}
 use Rattle.tables.specs.Held.{Held, blank, holding}
 use Rattle.line.specs.declared.line.Line.{Line as Arrays}
+use Rattle.line.specs.declared.status.Status.{Status}
+use Rattle.line.specs.declared.status.Status.TheVariants.{Open, Judged}
 use Rattle.line.specs.Answers.{Answer, given, refused}
-use Rattle.line.specs.PlanLines.{PlanLine, fresh_plan_line, plan_line_of}
+use Rattle.line.specs.PlanLines.{PlanLine, fresh_plan_line, is_judged, plan_line_of}
 use Rattle.line.specs.LineTurns.{LineTurn, refusing as not_on, word_turned, judge_turned, word_on, judge_on}
 use Rattle.plan.specs.Turns.{SlipModel}
 use Rattle.plan.specs.Model.{Model, Stepped, plan_line, with_plan_line, refusing, word_stepped, judge_stepped, freshening, clear_turn}
 use Rattle.plan.specs.Calls.{word_call, judge_call, withdraw_call, clear_call}
 use Rattle.plan.specs.Admission.{Admitted}
-use Rattle.plan.specs.Lines.{counted, Cleared}
-
-pub not_refused : {B C : Type 0} {x : B} {e : C} → ◌≡◌ {A = Result B C} (Ok x) (Err e) → ⊥
-not_refused p = let z : ◌≡◌ {A = ℕ} 0 1 = cc in omega arith
+use Rattle.plan.specs.Lines.{counted, Freshened}
 
 -- The line at a place of an array.
 pub line_at : (xs : List Arrays) (d : ℕ) (x : Arrays) → d < length xs → get_or (map plan_line_of xs) d fresh_plan_line ≡ plan_line_of (get_or xs d x)
@@ -65,15 +63,15 @@ module _ (m : Model) (d : ℕ) where
 
 -- Calls that reach a designer's line are turns on it.
 word_called : (h : Held) (m : Model) (d p w : ℕ) → Admitted h d (Ok p) → word_call h m d w ≡ on_line m d (word_on h (plan_line m d) w)
-word_called blank m d p w a = absurd (not_refused a)
+word_called blank m d p w a = cc
 word_called (holding G n A cells) m d p w a = cond-false (ltb 7 d) _ _ (le-ltb 7 d (omega (arith, a.1))) ∙ word_inner m d (plan_line m d).judged (take_word G A cells (plan_line m d).line w)
 
 judge_called : (h : Held) (m : Model) (d p : ℕ) → Admitted h d (Ok p) → judge_call h m d ≡ on_line m d (slip_turn d (judge_on h (plan_line m d)))
-judge_called blank m d p a = absurd (not_refused a)
+judge_called blank m d p a = cc
 judge_called (holding G n A cells) m d p a = cond-false (ltb 7 d) _ _ (le-ltb 7 d (omega (arith, a.1))) ∙ judge_inner m d (plan_line m d).judged (judge_line G A cells (plan_line m d).line)
 
 fresh_called : (h : Held) (m : Model) (d p : ℕ) (j : Bool) (s : SlipModel) → s.designer ≡ d → Admitted h d (Ok p) → cond j (withdraw_call h m s) (clear_call h m d) ≡ on_line m d (fresh_on j (plan_line m d))
-fresh_called blank m d p j s e a = absurd (not_refused a)
+fresh_called blank m d p j s e a = cc
 fresh_called (holding G n A cells) m d p j s e a =
     let f : ltb 7 d ≡ false = le-ltb 7 d (omega (arith, a.1)) in
     ap (λ i. cond j (cond (ltb 7 i) (refusing m 9) (cond (not (plan_line m i).judged) (refusing m 10) (freshening m i))) (clear_turn m d)) e
@@ -89,8 +87,8 @@ on_array xs d p x y n t a e h f =
     ∙ ap (on_line m p) f
     ∙ ap (λ ls. record { answer = a; next = counted ls n }) (sym (map-set plan_line_of xs p y))
 
-at_place : (h : Held) (d p : ℕ) → Admitted h d (Ok p) → p ≡ d
-at_place blank d p a = absurd (not_refused a)
+pub at_place : (h : Held) (d p : ℕ) → Admitted h d (Ok p) → p ≡ d
+at_place blank d p a = cc
 at_place (holding G n A cells) d p a = a.0
 
 module _ (h : Held) (xs : List Arrays) (d p : ℕ) (x y : Arrays) (admitted : Admitted h d (Ok p)) (within : p < length xs) (n : ℕ) where
@@ -103,13 +101,15 @@ module _ (h : Held) (xs : List Arrays) (d p : ℕ) (x y : Arrays) (admitted : Ad
   pub fresh_turned : (j : Bool) (s : SlipModel) → s.designer ≡ d → (a : Answer (Unit {0})) → fresh_on j (plan_line_of (get_or xs p x)) ≡ record { answer = a; next = plan_line_of y } → cond j (withdraw_call h (counted (map plan_line_of xs) n) s) (clear_call h (counted (map plan_line_of xs) n) d) ≡ record { answer = a; next = counted (map plan_line_of (set xs p y)) n }
   fresh_turned j s e a f = fresh_called h (counted (map plan_line_of xs) n) d p j s e admitted ∙ on_array xs d p x y n (fresh_on j) a (at_place h d p admitted) within f
 
-module _ (h : Held) (xs : List Arrays) (d p : ℕ) (x : Arrays) (admitted : Admitted h d (Ok p)) (within : p < length xs) (j : Bool) where
-  -- A line that is not as wanted stays, and one that is becomes fresh.
-  pub fresh_refused : not (beq (plan_line_of (get_or xs p x)).judged j) ≡ true → Cleared h (map plan_line_of xs) d j (Err Status) (map plan_line_of xs)
-  fresh_refused f n s e =
-      fresh_turned h xs d p x (get_or xs p x) admitted within n j s e (refused 10) (cond-true (not (beq (plan_line_of (get_or xs p x)).judged j)) _ _ f)
-      ∙ ap (λ l. record { answer = refused 10; next = counted (map plan_line_of l) n }) (set-get_or xs p x)
+fresh_same : (j : Bool) (l : PlanLine) → l.judged ≡ j → fresh_on j l ≡ record { answer = given tt; next = fresh_plan_line }
+fresh_same true l e = ap (λ i. cond (not (beq i true)) (not_on l 10) (record { answer = given tt; next = fresh_plan_line })) e
+fresh_same false l e = ap (λ i. cond (not (beq i false)) (not_on l 10) (record { answer = given tt; next = fresh_plan_line })) e
 
-  pub fresh_done : (y : Arrays) → not (beq (plan_line_of (get_or xs p x)).judged j) ≡ false → plan_line_of y ≡ fresh_plan_line → Cleared h (map plan_line_of xs) d j (Ok tt) (map plan_line_of (set xs p y))
-  fresh_done y f g n s e =
-      fresh_turned h xs d p x y admitted within n j s e (given tt) (cond-false (not (beq (plan_line_of (get_or xs p x)).judged j)) _ _ f ∙ ap (λ l. record { answer = given tt; next = l }) (sym g))
+-- A line with this status becomes fresh.
+module _ (h : Held) (xs : List Arrays) (d p : ℕ) (x y : Arrays) (admitted : Admitted h d (Ok p)) (within : p < length xs) (fresh : plan_line_of y ≡ fresh_plan_line) where
+  made_fresh : (j : Bool) → (plan_line_of (get_or xs p x)).judged ≡ j → fresh_on j (plan_line_of (get_or xs p x)) ≡ record { answer = given tt; next = plan_line_of y }
+  made_fresh j e = fresh_same j (plan_line_of (get_or xs p x)) e ∙ ap (λ l. record { answer = given tt; next = l }) (sym fresh)
+
+  pub fresh_done : (s : Status) → (plan_line_of (get_or xs p x)).judged ≡ is_judged s → Freshened h (map plan_line_of xs) d s (Ok tt) (map plan_line_of (set xs p y))
+  fresh_done Judged e = λ n s i. fresh_turned h xs d p x y admitted within n true s i (given tt) (made_fresh true e)
+  fresh_done Open e = λ n. fresh_turned h xs d p x y admitted within n false (record { designer = d; words = 0; steps = 0 }) refl (given tt) (made_fresh false e)

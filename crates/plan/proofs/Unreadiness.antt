@@ -1,18 +1,8 @@
--- Answers told apart, and calls refused since the designer or the line is not as wanted.
+-- Calls refused since the designer or the line is not as wanted.
 use Rattle.std.proofs.Common.{◌≡◌, ℕ, ◌<◌, Bool, true, false, not, ltb, sym, ◌∙◌, arith, ltb-false, ltb-true}
 use borrow.Author.Tests.{clash}
-use Rattle.line.specs.Answers.{Answer, given, refused}
 use Rattle.plan.specs.Account.{AccountLine}
 use Rattle.plan.specs.RightAnswers.{Ready, Unready, no_designer, other_status}
-
-pub same_given : {B : Type 0} {x y : B} → given x ≡ given y → x ≡ y
-same_given e = cc
-
-pub same_refused : {B : Type 0} {c e : ℕ} → ◌≡◌ {A = Answer B} (refused c) (refused e) → c ≡ e
-same_refused e = cc
-
-pub not_given : {B : Type 0} {c : ℕ} {y : B} → refused c ≡ given y → ⊥
-not_given e = let z : ◌≡◌ {A = ℕ} 0 1 = cc in omega arith
 
 other : (j : Bool) → j ≡ not j → ⊥
 other true e = clash (sym e)

@@ -1,6 +1,5 @@
 -- Words brought to lines.
-use Rattle.std.proofs.Common.{◌≡◌, ℕ, ◌+◌, ◌-◌, ◌<◌, Bool, true, false, cond, not, ltb, leb, List, [], ◌∷◌, ◌++◌, length, sym, refl, ap, ◌∙◌, subst, append-nil, arith, length-append, leb-false, leb-true}
-use mathlib.Core.Option.{Option}
+use Rattle.std.proofs.Common.{◌≡◌, ℕ, ◌+◌, ◌-◌, ◌<◌, Bool, true, false, cond, not, ltb, leb, List, [], ◌∷◌, ◌++◌, length, sym, refl, ap, ◌∙◌, subst, append-nil, arith, length-append, leb-false, leb-true, Option}
 use borrow.Author.Tests.{not-true, not-false, both_ways}
 use Rattle.std.proofs.lemmas.Bool.{cond_both, and_parts}
 use Rattle.grammar.specs.Grammar.{Grammar, Valid, IsTerminal}
@@ -25,11 +24,8 @@ use Rattle.plan.specs.RightAnswers.{Ready, Unready, no_designer, other_status, R
 use Rattle.plan.specs.Model.{Model, Stepped, plan_line, refusing, word_stepped, word_turn}
 use Rattle.plan.specs.Shows.{account_line, Shows, Stands, Continues}
 use Rattle.plan.specs.Theorems.{TablesOf}
-use Rattle.plan.proofs.Unreadiness.{same_given, same_refused, not_given, not_ready, high_designer, low_designer}
+use Rattle.plan.proofs.Unreadiness.{not_ready, high_designer, low_designer}
 use Rattle.plan.proofs.ShownTurns.{line_shown, shown_same, shown_line}
-
-same_cause : {c d : ℕ} → Turned.refused c ≡ Turned.refused d → c ≡ d
-same_cause e = cc
 
 -- No word that the test refuses is a terminal, and each other is.
 test_refuses : (G : Grammar) (w : ℕ) → not (is_terminal G w) ≡ true → IsTerminal G w → ⊥
@@ -42,7 +38,7 @@ test_passes G w e =
 
 -- Not ready for a word.
 word_unready : {G : Grammar} {A : Automaton} (d w : ℕ) {l : AccountLine} {c : ℕ} → Unready false d l c → RightWord G A d w l (refused c)
-word_unready d w {l} u = record { taken = (λ y. absurd y, λ y. not_ready u y.0); count = λ n e. absurd (not_given e); cause = λ n e. unready (subst (λ i. Unready false d l i) (same_refused e) u) }
+word_unready d w {l} u = record { taken = (λ y. absurd y, λ y. not_ready u y.0); count = λ n e. cc; cause = λ n e. unready (subst (λ i. Unready false d l i) (cc) u) }
 
 module _ {G : Grammar} {A : Automaton} (v : Valid G) (L : Laws G A) (p : AllProductive G) (cells : ℕ → ℕ → Option Action) (exact : Exact G A cells) (d w : ℕ) (l : Line) (o : Open G A cells l) (j : Bool) (ready : Ready false d (record { judged = j; words = l.words })) where
   abbrev Seen : AccountLine
@@ -53,19 +49,19 @@ module _ {G : Grammar} {A : Automaton} (v : Valid G) (L : Laws G A) (p : AllProd
 
   -- The cause, by the tests and by how the machine ends at the word.
   word_cause : (a b : Bool) (end : Ended) → leb 256 (length l.words) ≡ a → not (is_terminal G w) ≡ b → take_word G A cells l w ≡ cond a (Turned.refused 11) (cond b (Turned.refused 12) (after_word l w end)) → (c : ℕ) → take_word G A cells l w ≡ Turned.refused c → WordCause G A d w Seen c
-  word_cause true b end f g x c e = subst (λ i. WordCause G A d w Seen i) (same_cause (sym x ∙ e)) (line_full ready (leb-true 256 (length l.words) f))
-  word_cause false true end f g x c e = subst (λ i. WordCause G A d w Seen i) (same_cause (sym x ∙ e)) (no_terminal ready (leb-false 256 (length l.words) f) (test_refuses G w g))
-  word_cause false false stuck f g x c e = subst (λ i. WordCause G A d w Seen i) (same_cause (sym x ∙ e)) (cause_14 (leb-false 256 (length l.words) f) (test_passes G w g) x)
-  word_cause false false (accepted τ ps) f g x c e = subst (λ i. WordCause G A d w Seen i) (same_cause (sym x ∙ e)) (cause_14 (leb-false 256 (length l.words) f) (test_passes G w g) x)
-  word_cause false false full f g x c e = subst (λ i. WordCause G A d w Seen i) (same_cause (sym x ∙ e)) (too_many ready (leb-false 256 (length l.words) f) (test_passes G w g) (word_13 v L cells exact l (standing G A cells exact o) w x))
+  word_cause true b end f g x c e = subst (λ i. WordCause G A d w Seen i) (cc) (line_full ready (leb-true 256 (length l.words) f))
+  word_cause false true end f g x c e = subst (λ i. WordCause G A d w Seen i) (cc) (no_terminal ready (leb-false 256 (length l.words) f) (test_refuses G w g))
+  word_cause false false stuck f g x c e = subst (λ i. WordCause G A d w Seen i) (cc) (cause_14 (leb-false 256 (length l.words) f) (test_passes G w g) x)
+  word_cause false false (accepted τ ps) f g x c e = subst (λ i. WordCause G A d w Seen i) (cc) (cause_14 (leb-false 256 (length l.words) f) (test_passes G w g) x)
+  word_cause false false full f g x c e = subst (λ i. WordCause G A d w Seen i) (cc) (too_many ready (leb-false 256 (length l.words) f) (test_passes G w g) (word_13 v L cells exact l (standing G A cells exact o) w x))
   word_cause false false (shifted τ ps) f g x c e = absurd (not_after (sym e ∙ x))
 
   word_refused : (c : ℕ) → take_word G A cells l w ≡ Turned.refused c → RightWord G A d w Seen (refused c)
   word_refused c e =
       record {
         taken = (λ y. absurd y, λ y. not_after (sym e ∙ (begins_taken v L cells exact l w (standing G A cells exact o) y.1 y.2 y.3).1));
-        count = λ n x. absurd (not_given x);
-        cause = λ n x. subst (λ i. WordCause G A d w Seen i) (same_refused x) (word_cause (leb 256 (length l.words)) (not (is_terminal G w)) (runs G A cells (768 - length l.rules) w l.states) refl refl refl c e);
+        count = λ n x. cc;
+        cause = λ n x. subst (λ i. WordCause G A d w Seen i) (cc) (word_cause (leb 256 (length l.words)) (not (is_terminal G w)) (runs G A cells (768 - length l.rules) w l.states) refl refl refl c e);
       }
 
   module _ (k : Line) (e : take_word G A cells l w ≡ after k) where
@@ -93,8 +89,8 @@ module _ {G : Grammar} {A : Automaton} (v : Valid G) (L : Laws G A) (p : AllProd
         let few : length l.words < 256 = omega (arith, (standing G A cells exact (taken w o e)).few_words, ap length (words_after G A cells l k w e), length-append l.words (w ∷ [])) in
         record {
           taken = (λ y. (ready, few, taken_few cells exact l k w o e, taken_begins v L p cells exact l k w o e), λ y. tt);
-          count = λ n x. subst (λ i. Reductions G A l.words w i) (same_given x) counted;
-          cause = λ n x. absurd (not_given (sym x));
+          count = λ n x. subst (λ i. Reductions G A l.words w i) (cc) counted;
+          cause = λ n x. cc;
         }
 
 module _ (G : Grammar) (n : ℕ) (A : Automaton) (cells : ℕ → ℕ → Option Action) (T : TablesOf G n A cells) {turns : List Turn} {b₀ : List ℕ} {n₀ : ℕ} {m : Model} {list : List ℕ} {free : ℕ} (s : Shows G A cells turns b₀ n₀ m list free) (d w : ℕ) where

@@ -8,11 +8,10 @@ pub mod Shows
 pub mod LawKept
 pub mod Calls
 pub mod Slips
-pub mod EntryNumbers
 pub mod Admission
 pub mod Lines
-pub mod Bookings
 pub mod Plans
+pub mod Bookings
 pub mod WholeLines
 pub mod History
 pub mod WorkedEntry

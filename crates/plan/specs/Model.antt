@@ -1,6 +1,5 @@
 -- A plan as plain values, and the step of each call on it.
-use Rattle.std.specs.Prelude.{ℕ, ◌+◌, ◌-◌, ◌^◌, min, true, false, cond, not, List, [], length, replicate, nat_lt, slice_index_or, slice_set}
-use Rattle.std.proofs.Math.Option.{Option}
+use Rattle.std.specs.Prelude.{ℕ, ◌+◌, ◌-◌, ◌^◌, min, true, false, cond, not, List, [], length, replicate, nat_lt, slice_index_or, slice_set, Option}
 use Rattle.grammar.specs.Grammar.{Grammar}
 use Rattle.grammar.specs.States.{Automaton}
 use Rattle.grammar.specs.Line.{Line, Turned, after, take_word, judge_line}

@@ -1,10 +1,9 @@
 -- The turns by which a whole line is brought, judged and booked, to the first refusal.
 use Rattle.std.specs.Prelude.{◌≡◌, ℕ, List, [], ◌∷◌, ◌++◌}
-use Rattle.tables.specs.Held.{Held}
 use Rattle.line.specs.Answers.{Answer, given, refused}
 use Rattle.plan.specs.Turns.{SlipModel, Turn, word, judge, book, withdraw, clear}
-use Rattle.plan.specs.Model.{Model}
-use Rattle.plan.specs.LawKept.{KeepsLaw}
+use Rattle.plan.specs.Plans.{PlanValue}
+use Rattle.plan.specs.LawKept.{LawKept}
 
 -- A designer's words brought one by one, and all taken.
 pub data Taken (d : ℕ) : List ℕ → List Turn → Type 0 where
@@ -40,10 +39,10 @@ pub record WholeLine (d : ℕ) (ws : List ℕ) (x : Answer ℕ) (turns : List Tu
   pub is : turns ≡ first ++ second
 
 -- A call that makes a list of turns, and keeps the law.
-pub record Made (P : List Turn → Type 0) (h : Held) (m : Model) (list : List ℕ) (free : ℕ) (m' : Model) (list' : List ℕ) (free' : ℕ) : Type 0 where
+pub record Made {B : Type 0} (list : B → List ℕ) (free : B → ℕ) (P : List Turn → Type 0) (p q : PlanValue B) : Type 0 where
   pub turns : List Turn
   pub are : P turns
-  pub law : KeepsLaw h m list free turns m' list' free'
+  pub law : LawKept list free p turns q
 
 -- The book grew by some numbers, in its own way to grow.
 abbrev pub Grown : {C : Type 0} → (C → List ℕ → C → Type 0) → C → C → Type 0

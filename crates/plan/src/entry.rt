@@ -1,42 +1,35 @@
 // The entry of a judged line: the designer, the number of words, the number of rules, the words and the rules.
-ghost use Rattle.std.specs.Prelude.{◌≡◌, ◌+◌, ◌≤◌, length};
-ghost use Rattle.plan.specs.EntryNumbers.{Copied, numbers_of};
+ghost use Rattle.bounded.specs.BoundedList.{listed};
 ghost use Rattle.plan.specs.Entries.{entry};
+ghost use Rattle.std.specs.Prelude.{◌≡◌, ◌+◌, ◌++◌, ◌≤◌, length};
 
-// The numbers stand at the first `count` places.
-#[derive(Drop)]
-pub(crate) struct Entry {
-    pub(crate) numbers: [u16; 1027],
-    pub(crate) count: usize,
-}
+use bounded::BoundedList;
 
-// Copies the codes to a place and those behind it.
-fn copy(numbers: &mut [u16; 1027], place: usize, codes: &[u8])
-    requires { place + length codes.now ≤ 1027 }
-    ensures { Copied numbers.old place codes.now numbers.new }
+// At most 3 numbers, 256 words and 768 rules.
+pub(crate) type Entry = BoundedList<u16, 1027>;
+
+// The entry of a line with these words and rules.
+pub(crate) fn entry_of(designer: u8, words: &[u8], rules: &[u8]) -> Entry
+    requires words { length words.now ≤ 256 }
+    requires rules { length rules.now ≤ 768 }
+    ensures { listed result ≡ entry designer words.now rules.now }
 {
-    for i in 0..codes.len() {
-        numbers[place + i] = codes[i] as u16;
-    }
+    let mut entry = Entry::new(0);
+    let head = [u16::from(designer), words.len() as u16, rules.len() as u16];
+    let pushed = entry.extend_from_slice(&head);
+    prove!(pushed.is_ok());
+    append(&mut entry, words);
+    append(&mut entry, rules);
+    entry
 }
 
-impl Entry {
-    // The entry of a line with these words and rules.
-    pub(crate) fn of(designer: u8, words: &[u8], rules: &[u8]) -> Entry
-        requires words { length words.now ≤ 256 }
-        requires rules { length rules.now ≤ 768 }
-        ensures numbers { numbers_of result ≡ entry designer words.now rules.now }
-        ensures count { result.count ≤ 1027 }
-    {
-        let mut numbers = [0; 1027];
-        numbers[0] = designer as u16;
-        numbers[1] = words.len() as u16;
-        numbers[2] = rules.len() as u16;
-        copy(&mut numbers, 3, words);
-        copy(&mut numbers, 3 + words.len(), rules);
-        Entry {
-            numbers,
-            count: 3 + words.len() + rules.len(),
-        }
+// Puts the codes behind what the entry has, which leaves room for them.
+fn append(entry: &mut Entry, codes: &[u8])
+    requires { length (listed entry.old) + length codes.now ≤ 1027 }
+    ensures { listed entry.new ≡ listed entry.old ++ codes.now }
+{
+    for code in codes {
+        let pushed = entry.push(u16::from(*code));
+        prove!(pushed.is_ok());
     }
 }

@@ -1,10 +1,10 @@
 // A plan: tables and a book from its opening on, and the lines of eight designers.
-ghost use Rattle.plan.specs.Calls.{book_call, clear_call, judge_call, withdraw_call, word_call};
+ghost use Rattle.plan.specs.Calls.{clear_call, judge_call, withdraw_call, word_call};
 ghost use Rattle.plan.specs.Bookings.{LineBooked, Waiting};
-ghost use Rattle.plan.specs.LawKept.{BeginsLaw, KeepsLaw};
+ghost use Rattle.plan.specs.LawKept.{LawBegun, LawKept};
 ghost use Rattle.plan.specs.Model.{opened_model};
-ghost use Rattle.plan.specs.Plans.{BookGrows, HandedBack, book_made, clear_made, handed_answer, judge_made, model_of, withdraw_made, word_made};
-ghost use Rattle.plan.specs.Slips.{slip_answer, slip_of};
+ghost use Rattle.plan.specs.Plans.{BookGrows, SameBook, book_made, book_step, clear_made, judge_made, withdraw_made, word_made};
+ghost use Rattle.plan.specs.Slips.{HandedBack, handed_answer};
 ghost use Rattle.line.specs.Answers.{answer_of};
 ghost use Rattle.tables.specs.Building.{held};
 ghost use Rattle.std.specs.Prelude.{◌≡◌};
@@ -13,6 +13,8 @@ use super::lines::Lines;
 use super::slip::Slip;
 use book::{Book, enter};
 use grammar::Refusal;
+use line::Status;
+use std::marker::Model;
 use tables::Tables;
 
 // `booked` counts the lines booked since the opening.
@@ -24,12 +26,21 @@ pub struct Plan<B> {
     booked: u64,
 }
 
+// Clauses see the tables, the book, and the lines with the count.
+impl<B> Model for Plan<B> {
+    ghost use Rattle.plan.specs.Plans.{PlanValue};
+
+    ghost Value = { PlanValue B };
+
+    ghost view = { λ p. record { tables = p.tables; book = p.book; model = record { lines = p.lines; count = p.booked } } };
+}
+
 impl<B: Book> Plan<B> {
     // A plan with fresh lines, over these tables and this book.
     pub fn open(tables: Tables, book: B) -> Plan<B>
         ensures kept { (result.tables ≡ tables) × (result.book ≡ book) }
-        ensures fresh { model_of result.lines result.booked ≡ opened_model }
-        ensures law { BeginsLaw (held tables) (model_of result.lines result.booked) (B.list book) (B.free book) }
+        ensures fresh { result.model ≡ opened_model }
+        ensures law { LawBegun B.list B.free result }
     {
         Plan {
             tables,
@@ -47,77 +58,73 @@ impl<B: Book> Plan<B> {
     }
 
     // Brings a word to a designer's line; a word taken is answered by the number of reductions.
+    #[tactic(auto, using(crate::proofs::LawKept::word_law))]
     pub fn word(&mut self, designer: u8, word: u16) -> Result<u16, Refusal>
-        ensures step { word_call (held self.old.tables) (model_of self.old.lines self.old.booked) designer word ≡ record { answer = answer_of result; next = model_of self.new.lines self.new.booked } }
-        ensures kept { (self.new.tables ≡ self.old.tables) × (self.new.book ≡ self.old.book) }
-        ensures law { KeepsLaw (held self.old.tables) (model_of self.old.lines self.old.booked) (B.list self.old.book) (B.free self.old.book) (word_made designer word result) (model_of self.new.lines self.new.booked) (B.list self.new.book) (B.free self.new.book) }
+        ensures step { word_call (held self.old.tables) self.old.model designer word ≡ record { answer = answer_of result; next = self.new.model } }
+        ensures kept { SameBook self.old self.new }
+        ensures law { LawKept B.list B.free self.old (word_made designer word result) self.new }
     {
         self.lines.word(&self.tables, designer, word)
     }
 
     // Judges a designer's line; one found good gives out a slip.
+    #[tactic(auto, using(crate::proofs::LawKept::judge_law))]
     pub fn judge(&mut self, designer: u8) -> Result<Slip, Refusal>
-        ensures step { judge_call (held self.old.tables) (model_of self.old.lines self.old.booked) designer ≡ record { answer = slip_answer result; next = model_of self.new.lines self.new.booked } }
-        ensures kept { (self.new.tables ≡ self.old.tables) × (self.new.book ≡ self.old.book) }
-        ensures waiting { Waiting (held self.new.tables) (model_of self.new.lines self.new.booked) result }
-        ensures law { KeepsLaw (held self.old.tables) (model_of self.old.lines self.old.booked) (B.list self.old.book) (B.free self.old.book) (judge_made designer result) (model_of self.new.lines self.new.booked) (B.list self.new.book) (B.free self.new.book) }
+        ensures step { judge_call (held self.old.tables) self.old.model designer ≡ record { answer = answer_of result; next = self.new.model } }
+        ensures kept { SameBook self.old self.new }
+        ensures waiting { Waiting self.new result }
+        ensures law { LawKept B.list B.free self.old (judge_made designer result) self.new }
     {
         self.lines.judge(&self.tables, designer)
     }
 
     // Books the judged line of a designer: its whole entry goes into the book, or nothing.
     fn book_line(&mut self, designer: u8) -> Result<u64, Refusal>
-        ensures booked { LineBooked B.list B.free B.grows (held self.old.tables) (model_of self.old.lines self.old.booked) self.old.book designer result (model_of self.new.lines self.new.booked) self.new.book }
+        ensures booked { LineBooked B.list B.free B.grows self.old designer result self.new }
         ensures kept { self.new.tables ≡ self.old.tables }
     {
         let entry = self.lines.entry(&self.tables, designer)?;
-        if !enter(&mut self.book, &entry.numbers[0..entry.count]) {
+        if !enter(&mut self.book, entry.as_slice()) {
             return Err(Refusal::FullBook);
         }
-        let _ = self.lines.freshen(&self.tables, designer, true);
+        let freshened = self.lines.freshen(&self.tables, designer, Status::Judged);
+        prove!(freshened.is_ok());
         self.booked = self.booked.saturating_add(1);
         Ok(self.booked)
     }
 
     // Books a judged line, which is then fresh, and answers how many lines were booked since the opening; refused, the slip is handed back.
     pub fn book(&mut self, slip: Slip) -> Result<u64, (Refusal, Slip)>
-        ensures step { ((book_call (held self.old.tables) (model_of self.old.lines self.old.booked) (B.free self.old.book) (slip_of slip)).answer ≡ handed_answer result) × ((book_call (held self.old.tables) (model_of self.old.lines self.old.booked) (B.free self.old.book) (slip_of slip)).next ≡ model_of self.new.lines self.new.booked) }
-        ensures written { BookGrows B.grows self.old.book (book_call (held self.old.tables) (model_of self.old.lines self.old.booked) (B.free self.old.book) (slip_of slip)).written result self.new.book }
+        ensures step { let step = book_step B.free self.old slip in (step.answer ≡ handed_answer result) × (step.next ≡ self.new.model) }
+        ensures written { BookGrows B.grows self.old.book (book_step B.free self.old slip).written result self.new.book }
         ensures back { HandedBack slip result }
         ensures kept { self.new.tables ≡ self.old.tables }
-        ensures law { KeepsLaw (held self.old.tables) (model_of self.old.lines self.old.booked) (B.list self.old.book) (B.free self.old.book) (book_made slip result) (model_of self.new.lines self.new.booked) (B.list self.new.book) (B.free self.new.book) }
+        ensures law { LawKept B.list B.free self.old (book_made slip result) self.new }
     {
-        match self.book_line(slip.designer()) {
-            Ok(count) => {
-                slip.spend();
-                Ok(count)
-            }
-            Err(refusal) => Err((refusal, slip)),
-        }
+        let booked = self.book_line(slip.designer());
+        slip.settled(booked)
     }
 
     // Withdraws a judged line, which is then fresh; refused, the slip is handed back.
+    #[tactic(auto, using(crate::proofs::LawKept::withdraw_law))]
     pub fn withdraw(&mut self, slip: Slip) -> Result<(), (Refusal, Slip)>
-        ensures step { withdraw_call (held self.old.tables) (model_of self.old.lines self.old.booked) (slip_of slip) ≡ record { answer = handed_answer result; next = model_of self.new.lines self.new.booked } }
+        ensures step { withdraw_call (held self.old.tables) self.old.model slip ≡ record { answer = handed_answer result; next = self.new.model } }
         ensures back { HandedBack slip result }
-        ensures kept { (self.new.tables ≡ self.old.tables) × (self.new.book ≡ self.old.book) }
-        ensures law { KeepsLaw (held self.old.tables) (model_of self.old.lines self.old.booked) (B.list self.old.book) (B.free self.old.book) (withdraw_made slip result) (model_of self.new.lines self.new.booked) (B.list self.new.book) (B.free self.new.book) }
+        ensures kept { SameBook self.old self.new }
+        ensures law { LawKept B.list B.free self.old (withdraw_made slip result) self.new }
     {
-        match self.lines.freshen(&self.tables, slip.designer(), true) {
-            Ok(()) => {
-                slip.spend();
-                Ok(())
-            }
-            Err(refusal) => Err((refusal, slip)),
-        }
+        let designer = slip.designer();
+        let withdrawn = self.lines.freshen(&self.tables, designer, Status::Judged);
+        slip.settled(withdrawn)
     }
 
     // Clears an open line, which is then fresh.
+    #[tactic(auto, using(crate::proofs::LawKept::clear_law))]
     pub fn clear(&mut self, designer: u8) -> Result<(), Refusal>
-        ensures step { clear_call (held self.old.tables) (model_of self.old.lines self.old.booked) designer ≡ record { answer = answer_of result; next = model_of self.new.lines self.new.booked } }
-        ensures kept { (self.new.tables ≡ self.old.tables) × (self.new.book ≡ self.old.book) }
-        ensures law { KeepsLaw (held self.old.tables) (model_of self.old.lines self.old.booked) (B.list self.old.book) (B.free self.old.book) (clear_made designer result) (model_of self.new.lines self.new.booked) (B.list self.new.book) (B.free self.new.book) }
+        ensures step { clear_call (held self.old.tables) self.old.model designer ≡ record { answer = answer_of result; next = self.new.model } }
+        ensures kept { SameBook self.old self.new }
+        ensures law { LawKept B.list B.free self.old (clear_made designer result) self.new }
     {
-        self.lines.freshen(&self.tables, designer, false)
+        self.lines.freshen(&self.tables, designer, Status::Open)
     }
 }

@@ -1,6 +1,9 @@
 // Slips: made by judging alone, and spent by booking or withdrawing alone.
-ghost use Rattle.plan.specs.Slips.{slip_of};
+ghost use Rattle.plan.specs.Slips.{handed};
 ghost use Rattle.std.specs.Prelude.{◌≡◌};
+
+use grammar::Refusal;
+use std::marker::Model;
 
 // A judged line's designer, and how many words and derivation steps the line has. The type is no Drop, so a slip cannot be let go.
 pub struct Slip {
@@ -9,10 +12,21 @@ pub struct Slip {
     steps: u16,
 }
 
+// Clauses see all that a slip tells, and nothing is left out.
+impl Model for Slip {
+    ghost use Rattle.plan.specs.Turns.{SlipModel};
+
+    ghost Value = { SlipModel };
+
+    ghost view = { λ s. record { designer = s.designer; words = s.words; steps = s.steps } };
+
+    ghost inverse = { λ s. record { designer = s.designer; words = s.words; steps = s.steps } };
+}
+
 impl Slip {
     // The slip of a line just judged.
     pub(crate) fn issue(designer: u8, words: u16, steps: u16) -> Slip
-        ensures { slip_of result ≡ record { designer = designer; words = words; steps = steps } }
+        ensures { result ≡ record { designer = designer; words = words; steps = steps } }
     {
         Slip {
             designer,
@@ -30,23 +44,36 @@ impl Slip {
         } = self;
     }
 
+    // The end of a slip that a call took: the call done, it is spent; refused, it is handed back.
+    pub(crate) fn settled<T>(self, answer: Result<T, Refusal>) -> Result<T, (Refusal, Slip)>
+        ensures { result ≡ handed self answer }
+    {
+        match answer {
+            Ok(done) => {
+                self.spend();
+                Ok(done)
+            }
+            Err(refusal) => Err((refusal, self)),
+        }
+    }
+
     // Whose line was judged.
     pub fn designer(&self) -> u8
-        ensures { result ≡ (slip_of self.now).designer }
+        ensures { result ≡ self.now.designer }
     {
         self.designer
     }
 
     // How many words the line has.
     pub fn words(&self) -> u16
-        ensures { result ≡ (slip_of self.now).words }
+        ensures { result ≡ self.now.words }
     {
         self.words
     }
 
     // How many derivation steps the line has.
     pub fn steps(&self) -> u16
-        ensures { result ≡ (slip_of self.now).steps }
+        ensures { result ≡ self.now.steps }
     {
         self.steps
     }

@@ -1,4 +1,5 @@
 // What is proved of the turns of a plan. Each function states a theorem in its contract, and answers 0.
+// They are one each, so that each theorem has a name to be cited by.
 ghost use Rattle.plan.specs.Theorems.{Opening, WordSteps, JudgeSteps, BookSteps, WithdrawSteps, ClearSteps, Lawful, EveryHistory};
 ghost use Rattle.plan.specs.WorkedEntry.{WorkedEntry};
 ghost use Rattle.std.specs.Prelude.{◌≡◌};

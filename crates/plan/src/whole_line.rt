@@ -1,8 +1,7 @@
 // A whole line at once: its words are brought, the line is judged and booked, to the first refusal.
 ghost use Rattle.line.specs.Answers.{answer_of};
 ghost use Rattle.plan.specs.Bookings.{SlipWaits, Waiting};
-ghost use Rattle.plan.specs.Plans.{model_of};
-ghost use Rattle.plan.specs.Slips.{slip_answer, slip_of};
+ghost use Rattle.plan.specs.Plans.{SameBook};
 ghost use Rattle.plan.specs.WholeLines.{Grown, Judging, Made, SettlingSlip, WholeLine, Withdrawing};
 ghost use Rattle.tables.specs.Building.{held};
 ghost use Rattle.std.specs.Prelude.{◌≡◌};
@@ -15,37 +14,35 @@ use grammar::Refusal;
 impl<B: Book> Plan<B> {
     // Brings the words to the first refusal, and judges the line if there is none.
     fn judge_words(&mut self, designer: u8, words: &[u16]) -> Result<Slip, Refusal>
-        ensures made { Made (Judging designer words.now (slip_answer result)) (held self.old.tables) (model_of self.old.lines self.old.booked) (B.list self.old.book) (B.free self.old.book) (model_of self.new.lines self.new.booked) (B.list self.new.book) (B.free self.new.book) }
-        ensures waiting { Waiting (held self.new.tables) (model_of self.new.lines self.new.booked) result }
-        ensures kept { (self.new.tables ≡ self.old.tables) × (self.new.book ≡ self.old.book) }
+        ensures made { Made B.list B.free (Judging designer words.now (answer_of result)) self.old self.new }
+        ensures waiting { Waiting self.new result }
+        ensures kept { SameBook self.old self.new }
     {
         for word in words {
-            if let Err(refusal) = self.word(designer, *word) {
-                return Err(refusal);
-            }
+            self.word(designer, *word)?;
         }
         self.judge(designer)
     }
 
     // Withdraws the line of a slip that waits: this is never refused, so that no slip is lost.
     fn take_back(&mut self, slip: Slip)
-        requires { SlipWaits (held self.old.tables) (model_of self.old.lines self.old.booked) (slip_of slip) }
-        ensures made { Made (Withdrawing (slip_of slip)) (held self.old.tables) (model_of self.old.lines self.old.booked) (B.list self.old.book) (B.free self.old.book) (model_of self.new.lines self.new.booked) (B.list self.new.book) (B.free self.new.book) }
-        ensures kept { (self.new.tables ≡ self.old.tables) × (self.new.book ≡ self.old.book) }
+        requires { SlipWaits (held self.old.tables) self.old.model slip }
+        ensures made { Made B.list B.free (Withdrawing slip) self.old self.new }
+        ensures kept { SameBook self.old self.new }
     {
-        match self.withdraw(slip) {
-            Ok(()) => {}
-            Err((_, slip)) => slip.spend(),
+        if let Err((_, slip)) = self.withdraw(slip) {
+            slip.spend();
         }
     }
 
     // Books the line of a slip that waits, or withdraws it where booking is refused.
     fn settle(&mut self, slip: Slip) -> Result<u64, Refusal>
-        requires { SlipWaits (held self.old.tables) (model_of self.old.lines self.old.booked) (slip_of slip) }
-        ensures made { Made (SettlingSlip (slip_of slip) (answer_of result)) (held self.old.tables) (model_of self.old.lines self.old.booked) (B.list self.old.book) (B.free self.old.book) (model_of self.new.lines self.new.booked) (B.list self.new.book) (B.free self.new.book) }
+        requires { SlipWaits (held self.old.tables) self.old.model slip }
+        ensures made { Made B.list B.free (SettlingSlip slip (answer_of result)) self.old self.new }
         ensures grown { Grown B.grows self.old.book self.new.book }
         ensures kept { self.new.tables ≡ self.old.tables }
     {
+        // The refused arm takes the plan and the slip, which a closure for `map_err` would have to borrow: no plainer.
         match self.book(slip) {
             Ok(count) => Ok(count),
             Err((refusal, slip)) => {
@@ -57,13 +54,14 @@ impl<B: Book> Plan<B> {
 
     // Brings the words to a designer's line, judges it and books it, to the first refusal; a judged line is then withdrawn, and an open one cleared.
     pub fn book_words(&mut self, designer: u8, words: &[u16]) -> Result<u64, Refusal>
-        ensures made { Made (WholeLine designer words.now (answer_of result)) (held self.old.tables) (model_of self.old.lines self.old.booked) (B.list self.old.book) (B.free self.old.book) (model_of self.new.lines self.new.booked) (B.list self.new.book) (B.free self.new.book) }
+        ensures made { Made B.list B.free (WholeLine designer words.now (answer_of result)) self.old self.new }
         ensures grown { Grown B.grows self.old.book self.new.book }
         ensures kept { self.new.tables ≡ self.old.tables }
     {
         match self.judge_words(designer, words) {
             Ok(slip) => self.settle(slip),
             Err(refusal) => {
+                // Refused where there is no such line, and nothing is to be cleared.
                 let _ = self.clear(designer);
                 Err(refusal)
             }

@@ -1,6 +1,5 @@
-pub mod Fronts
 pub mod Bodies
-pub mod Numbers
+pub mod Packs
 pub mod OffLayout
 pub mod Packings
 pub mod Ranges

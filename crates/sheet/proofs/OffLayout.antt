@@ -1,8 +1,10 @@
 -- The laws of the layout: packed and off exclude each other, and each at one value only.
-use Rattle.std.proofs.Common.{◌≡◌, ℕ, ◌+◌, ◌<◌, ◌≤◌, List, length, get_or, sym, refl, ap, ◌∙◌, subst, arith}
+use Rattle.std.proofs.Common.{◌≡◌, ℕ, ◌+◌, ◌<◌, ◌≤◌, List, length, get_or, take, drop, sym, refl, ap, ◌∙◌, subst, arith}
 use native.Mathlib.Decide.{dec_lt}
+use Rattle.std.proofs.lemmas.List.{get_or-drop, get_or-take, length-drop, length-take-le}
 use Rattle.grammar.specs.Grammar.{Grammar}
-use Rattle.sheet.specs.Packing.{InLayout, LayoutLaws, Lies, Off, ToldAt, ends, packed, stated, unpacked}
+use Rattle.sheet.specs.Packing.{InLayout, LayoutLaws, Lies, Off, Refused, ends, packed, stated, unpacked}
+use Rattle.grammar.specs.declared.refusal.Refusal.TheVariants.{Layout}
 use Rattle.sheet.specs.Packing.Off.{missing, lowest, behind}
 use Rattle.sheet.specs.Packing.OffTold.{tells}
 use Rattle.sheet.proofs.Packings.{lies_packed, packed_full, packed_lies, packed_listed, packed_means}
@@ -17,16 +19,24 @@ not_off G k (lowest {r} listed low before not) = not (packed_lies G r low)
 not_off G k (behind listed all more) = let there = packed_full G in omega arith
 
 -- where a list is off, it packs no grammar
-pub told_at : (ns : List ℕ) (k : ℕ) → Off ns k → ToldAt ns k
-told_at ns k off = (tells off, λ G e. not_off G k (subst (λ l. Off l k) e off))
+pub refused_at : (ns : List ℕ) (k : ℕ) → Off ns k → Refused ns (Layout k)
+refused_at ns k off = (tells off, λ G e. not_off G k (subst (λ l. Off l k) e off))
+
+-- the contents, where they are all there
+module _ (ns cs : List ℕ) (listed : 3 + stated ns ≤ length ns) (is : cs ≡ take (stated ns) (drop 3 ns)) where
+  pub contents_length : length cs ≡ stated ns
+  contents_length = ap length is ∙ length-take-le (stated ns) (drop 3 ns) (omega (arith, length-drop 3 ns, listed))
+
+  pub contents_at : (r : ℕ) → r < length cs → get_or cs r 0 ≡ get_or ns (3 + r) 0
+  contents_at r h = ap (λ l. get_or l r 0) is ∙ get_or-take (stated ns) (drop 3 ns) r 0 (omega (arith, contents_length, h)) ∙ get_or-drop 3 ns r 0
 
 -- with every rule in its layout, numbers follow or the list is a packing
-pub all_lie : (ns : List ℕ) (rules r at : ℕ) → 3 + stated ns ≤ length ns → rules ≡ stated ns → r ≡ rules → at ≡ ends ns r → at ≤ length ns → ((j : ℕ) → j < r → Lies ns j)
-    → (at < length ns → ToldAt ns (rules + 1)) × (length ns ≤ at → InLayout ns)
-all_lie ns rules r at listed count all is within before =
-    let end = ap (ends ns) (all ∙ count) in
+pub all_lie : (ns : List ℕ) (r at : ℕ) → 3 + stated ns ≤ length ns → r ≡ stated ns → at ≡ ends ns r → at ≤ length ns → ((j : ℕ) → j < r → Lies ns j)
+    → (at < length ns → Refused ns (Layout (stated ns + 1))) × (length ns ≤ at → InLayout ns)
+all_lie ns r at listed all is within before =
+    let end = ap (ends ns) all in
     let every : (j : ℕ) → j < stated ns → Lies ns j = λ j h. before j (omega arith) in (
-      λ h. subst (λ n. ToldAt ns (n + 1)) (sym count) (told_at ns (stated ns + 1) (behind listed every (omega arith))),
+      λ h. refused_at ns (stated ns + 1) (behind listed every (omega arith)),
       λ h. let full : ends ns (stated ns) ≡ length ns = omega arith in
           record { listed = listed; lies = every; full = full; packs = lies_packed ns listed every full; only = λ G e. ap unpacked e ∙ packed_means G },
     )

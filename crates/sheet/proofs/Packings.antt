@@ -66,7 +66,7 @@ make_rule a s = record { left = a; right = s }
 rule_path : {a b : ℕ} {s t : List ℕ} → a ≡ b → s ≡ t → make_rule a s ≡ make_rule b t
 rule_path p q i = record { left = p i; right = q i }
 
-contents_length : (at : ℕ) (rs : List Rule) → length (contents at rs) ≡ length rs
+pub contents_length : (at : ℕ) (rs : List Rule) → length (contents at rs) ≡ length rs
 contents_length at [] = refl
 contents_length at (r ∷ rs) = ap suc (contents_length (at + length (body r)) rs)
 

@@ -1,4 +1,5 @@
 pub mod Packing
 pub mod Packs
 pub mod Readings
+pub mod ShortRules
 pub mod Supplements

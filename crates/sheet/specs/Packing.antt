@@ -1,9 +1,10 @@
 -- How a grammar is packed into a list of numbers, and where a list is off that layout.
-use Rattle.std.specs.Prelude.{◌≡◌, ℕ, zero, suc, ◌+◌, ◌<◌, ◌≤◌, List, [], ◌∷◌, ◌++◌, map, length, take, drop, Some, None, ◌≢◌, slice_index}
+use Rattle.std.specs.Prelude.{◌≡◌, ℕ, zero, suc, ◌+◌, ◌<◌, ◌≤◌, List, [], ◌∷◌, ◌++◌, map, length, take, drop, Some, ◌≢◌, slice_index}
 use Rattle.std.specs.List.{range_with_len}
 use Rattle.grammar.specs.Grammar.{Rule, Grammar}
-use Rattle.grammar.specs.Refusals.{Told, number}
-use Rattle.sheet.specs.Readings.{code_told, left_told, length_told}
+use Rattle.grammar.specs.Refusals.{Told, number, told}
+use Rattle.grammar.specs.declared.refusal.Refusal.{Refusal}
+use Rattle.sheet.specs.Readings.{rule_told}
 
 -- A body: the left side, the length, the codes.
 abbrev pub body : Rule → List ℕ
@@ -54,17 +55,14 @@ rule_from ns at = record { left = slice_index ns at; right = take (slice_index n
 abbrev pub unpacked : List ℕ → Grammar
 unpacked ns = record { terminals = slice_index ns 0; nonterminals = slice_index ns 1; rules = map (λ r. rule_from ns (slice_index ns (3 + r))) (range_with_len 0 (stated ns)) }
 
--- A refusal that tells k is right, and the list packs no grammar.
-abbrev pub ToldAt : List ℕ → ℕ → Type 0
-ToldAt ns k = OffTold ns (record { number = 1; values = number k ∷ [] }) × ((G : Grammar) → ns ≢ packed G)
+-- The refusal is right, and the list packs no grammar.
+abbrev pub Refused : List ℕ → Refusal → Type 0
+Refused ns e = OffTold ns (told e) × ((G : Grammar) → ns ≢ packed G)
 
 -- What a list tells of a rule with this number, whose body begins at this place.
 pub record BodyAt (ns : List ℕ) (rule at : ℕ) : Type 0 where
   pub there : at + 2 + slice_index ns (at + 1) ≤ length ns
-  pub left : left_told (unpacked ns) rule ≡ Some (slice_index ns at)
-  pub size : length_told (unpacked ns) rule ≡ Some (slice_index ns (at + 1))
-  pub code : (p : ℕ) → p < slice_index ns (at + 1) → code_told (unpacked ns) rule p ≡ Some (slice_index ns (at + 2 + p))
-  pub past : (p : ℕ) → slice_index ns (at + 1) ≤ p → code_told (unpacked ns) rule p ≡ None
+  pub told : rule_told (unpacked ns) rule ≡ Some (rule_from ns at)
 
 -- A list in its layout: all is there, it packs what it means, and no other grammar.
 pub record InLayout (ns : List ℕ) : Type 0 where

@@ -1,19 +1,14 @@
 -- A grammar with rules behind those of another, and what it is to add one more.
-use Rattle.std.specs.Prelude.{◌≡◌, ℕ, ◌+◌, ◌-◌, ◌<◌, ◌≤◌, List, [], ◌∷◌, ◌++◌, map, length, take, Some, None, slice_index_or}
+use Rattle.std.specs.Prelude.{◌≡◌, ℕ, ◌+◌, ◌-◌, ◌≤◌, List, [], ◌∷◌, ◌++◌, map, length, take}
+use Rattle.bounded.specs.BoundedList.{listed}
 use Rattle.grammar.specs.Grammar.{AllCodes, Grammar, IsNonterminal, Rule}
 use Rattle.grammar.specs.Refusals.{Told, number}
-use Rattle.sheet.specs.Readings.{rule_told}
-use Rattle.sheet.specs.declared.own_rule.OwnRule.{OwnRule}
-use Rattle.sheet.specs.declared.standing.Standing.{Standing}
-use Rattle.sheet.specs.declared.standing.Standing.TheVariants.{Below, Outside, Own}
+use Rattle.sheet.specs.ShortRules.{rule_of}
+use Rattle.sheet.specs.declared.supplement.Supplement.{Supplement}
 
--- The rule that an entry of the inner table stands for.
-abbrev pub rule_of : OwnRule → Rule
-rule_of o = record { left = o.left; right = take o.size o.codes }
-
--- The rules below, and behind them the first n of the inner table, as far as 96 in all.
-abbrev pub supplemented : Grammar → ℕ → List OwnRule → Grammar
-supplemented G n own = record { terminals = G.terminals; nonterminals = G.nonterminals; rules = G.rules ++ take n (take (96 - length G.rules) (map rule_of own)) }
+-- The rules below, and behind them others, as far as 96 in all.
+abbrev pub with_rules : Grammar → List Rule → Grammar
+with_rules G own = record { terminals = G.terminals; nonterminals = G.nonterminals; rules = G.rules ++ take (96 - length G.rules) own }
 
 -- The grammar with one more rule behind its others.
 abbrev pub with_rule : Grammar → ℕ → List ℕ → Grammar
@@ -27,26 +22,23 @@ WithinLimits G own codes = (length G.rules + 1 ≤ 96) × (own + 1 ≤ 16) × (l
 abbrev pub InRange : Grammar → ℕ → List ℕ → Type 0
 InRange G left codes = IsNonterminal G left × AllCodes G codes
 
--- The rule is added: the grammar G, with so many rules of its own, becomes H with more.
-pub record Added (G : Grammar) (own left : ℕ) (codes : List ℕ) (H : Grammar) (more : ℕ) : Type 0 where
-  pub limits : WithinLimits G own codes
-  pub range : InRange G left codes
-  pub appended : H ≡ with_rule G left codes
-  pub counted : more ≡ own + 1
-
 -- What a refusal tells: 3 past a limit, else 4 with the number that the rule would have had.
 pub data NotAdded (G : Grammar) (own left : ℕ) (codes : List ℕ) : Told → Type 0 where
   limits : (WithinLimits G own codes → ⊥) → NotAdded G own left codes (record { number = 3; values = [] })
   range : WithinLimits G own codes → (InRange G left codes → ⊥) → NotAdded G own left codes (record { number = 4; values = number (length G.rules + 1) ∷ [] })
 
--- A number that is below, one of its own, or outside, by the counts alone.
-abbrev pub StandsBy : ℕ → ℕ → ℕ → Standing → Type 0
-StandsBy rule below own Below = rule ≤ below
-StandsBy rule below own (Own i) = (below + i + 1 ≡ rule) × (rule ≤ 96) × (i < own)
-StandsBy rule below own Outside = (below < rule) × (rule ≤ 96 → below + own < rule)
+module _ {S : Type 0} where
+  -- The rules of its own.
+  abbrev pub own_rules : Supplement S → List Rule
+  own_rules x = map rule_of (listed x.own)
 
--- What is told of the rule with this number.
-abbrev pub Stands : Grammar → ℕ → List OwnRule → ℕ → Standing → Type 0
-Stands G n own rule Below = rule_told (supplemented G n own) rule ≡ rule_told G rule
-Stands G n own rule (Own i) = (i < n) × ((d : OwnRule) → rule_told (supplemented G n own) rule ≡ Some (rule_of (slice_index_or own i d)))
-Stands G n own rule Outside = rule_told (supplemented G n own) rule ≡ None
+  -- What a supplement means, by what the sheet below means.
+  abbrev pub supplemented : (S → Grammar) → Supplement S → Grammar
+  supplemented below x = with_rules (below x.sheet) (own_rules x)
+
+-- The rule is added behind the others.
+pub record Added {S : Type 0} (below : S → Grammar) (before : Supplement S) (left : ℕ) (codes : List ℕ) (after : Supplement S) : Type 0 where
+  pub limits : WithinLimits (supplemented below before) (length (own_rules before)) codes
+  pub range : InRange (supplemented below before) left codes
+  pub appended : supplemented below after ≡ with_rule (supplemented below before) left codes
+  pub own : own_rules after ≡ own_rules before ++ record { left = left; right = codes } ∷ []

@@ -1,14 +1,14 @@
 // Rule sheets: what any sheet tells, and the kinds that are packed or made of another.
 #![tactic(auto)]
 
-mod own_rule;
 mod packed;
 mod packing;
 mod rule_sheet;
-mod standing;
+mod short_rule;
 mod supplement;
 
 pub use packed::{PackedSheet, layout_laws};
 pub use packing::pack;
 pub use rule_sheet::RuleSheet;
+pub use short_rule::ShortRule;
 pub use supplement::Supplement;

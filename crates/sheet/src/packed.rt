@@ -1,7 +1,7 @@
-ghost use Rattle.std.specs.Prelude.{◌≡◌, ℕ, ◌+◌, ◌<◌, ◌≤◌, length, None, Ok, Err, MatchOption, MatchResult, slice_index, slice_index_or};
+ghost use Rattle.std.specs.Prelude.{◌≡◌, ℕ, ◌+◌, ◌^◌, ◌<◌, ◌≤◌, drop, length, take, IfSome, None, Ok, Some, MatchOption, MatchResult, slice_index};
 ghost use Rattle.grammar.specs.Grammar.{Grammar, nothing};
 ghost use Rattle.grammar.specs.Refusals.{told};
-ghost use Rattle.sheet.specs.Packing.{BodyAt, InLayout, LayoutLaws, Lies, OffTold, ToldAt, ends, packed, stated, unpacked};
+ghost use Rattle.sheet.specs.Packing.{BodyAt, InLayout, LayoutLaws, Lies, OffTold, Refused, ends, packed, stated, unpacked};
 ghost use Rattle.sheet.specs.Readings.{rule_told};
 
 use super::rule_sheet::RuleSheet;
@@ -32,139 +32,115 @@ impl<'a> PackedSheet<'a> {
         ensures answer { MatchResult result (λ _. numbers.now ≡ packed (unpacked self.new.numbers.now)) (λ e. OffTold numbers.now (told e) × (unpacked self.new.numbers.now ≡ nothing)) }
         ensures means { (G : Grammar) → numbers.now ≡ packed G → (result ≡ Ok tt) × (unpacked self.new.numbers.now ≡ G) }
     {
-        match off(numbers) {
-            None => {
-                self.numbers = numbers;
-                Ok(())
-            }
-            Some(rule) => {
-                self.numbers = &NOTHING;
-                Err(Refusal::Layout { rule })
-            }
-        }
+        self.numbers = &NOTHING;
+        check_layout(numbers)?;
+        self.numbers = numbers;
+        Ok(())
     }
 
-    // The numbers of terminals, of nonterminals and of rules.
-    fn counts(&self) -> (u16, u16, u16)
-        ensures { (result.0 ≡ (unpacked self.now.numbers.now).terminals) × (result.1 ≡ (unpacked self.now.numbers.now).nonterminals) × (result.2 ≡ length (unpacked self.now.numbers.now).rules) }
-    {
-        (self.numbers[0], self.numbers[1], self.numbers[2])
-    }
-
-    // Where the body of a rule begins.
+    // Where the body of a rule begins. An index proves here; `contents(..)?.get(..)` would test again what the type says.
     fn place(&self, rule: u16) -> Option<usize>
         ensures { MatchOption result (rule_told (unpacked self.now.numbers.now) rule ≡ None) (λ at. BodyAt self.now.numbers.now rule at) }
     {
-        let Some(i) = in_contents(rule, self.numbers[2]) else {
+        let before = rule.checked_sub(1)?;
+        if before >= self.numbers[2] {
             return None;
-        };
-        Some(self.numbers[i] as usize)
+        }
+        Some(self.numbers[3 + before as usize] as usize)
+    }
+
+    // The left side and the codes of a rule.
+    fn rule(&self, rule: u16) -> Option<(u16, &'a [u16])>
+        ensures told { MatchOption result (rule_told (unpacked self.now.numbers.now) rule ≡ None) (λ r. rule_told (unpacked self.now.numbers.now) rule ≡ Some (record { left = r.0; right = r.1.now })) }
+        ensures narrow { IfSome result (λ r. length r.1.now < 2 ^ 16) }
+    {
+        let at = self.place(rule)?;
+        let behind = &self.numbers[at + 2..];
+        Some((self.numbers[at], &behind[..self.numbers[at + 1] as usize]))
     }
 }
 
-// Where the contents have a rule, of so many.
-fn in_contents(rule: u16, rules: u16) -> Option<usize>
-    ensures { MatchOption result ((0 < rule → rules < rule)) (λ i. (i ≡ 2 + rule) × (0 < rule) × (rule ≤ rules)) }
+// The places of the bodies, if the counts and the contents are there.
+fn contents(numbers: &[u16]) -> Option<&[u16]>
+    ensures { MatchOption result (length numbers.now < 3 + stated numbers.now) (λ c. (3 + stated numbers.now ≤ length numbers.now) × (c.now ≡ take (stated numbers.now) (drop 3 numbers.now))) }
 {
-    if rule == 0 || rule > rules {
-        return None;
-    }
-    Some(2 + rule as usize)
+    let rules = *numbers.get(2)? as usize;
+    numbers.get(3..3 + rules)
 }
 
-// Where the numbers are off their layout, if they are.
-fn off(numbers: &[u16]) -> Option<u32>
-    ensures { MatchOption result (InLayout numbers.now) (λ k. ToldAt numbers.now k) }
+// Why the numbers are off their layout, if they are.
+fn check_layout(numbers: &[u16]) -> Result<(), Refusal>
+    ensures { MatchResult result (λ _. InLayout numbers.now) (λ e. Refused numbers.now e) }
 {
-    let Some(rules) = listed(numbers) else {
-        return Some(0);
+    let Some(contents) = contents(numbers) else {
+        return Err(Refusal::Layout { rule: 0 });
     };
-    match bodies_end(numbers, rules) {
-        Ok(end) if end < numbers.len() => Some(rules as u32 + 1),
-        Ok(_) => None,
-        Err(before) => Some(before as u32 + 1),
+    let end = bodies_end(numbers, contents)?;
+    if end < numbers.len() {
+        return Err(Refusal::Layout {
+            rule: contents.len() as u32 + 1,
+        });
     }
+    Ok(())
 }
 
-// The number of rules, if the counts and the contents are there.
-fn listed(numbers: &[u16]) -> Option<usize>
-    ensures { MatchOption result (length numbers.now < 3 + stated numbers.now) (λ n. (n ≡ stated numbers.now) × (3 + stated numbers.now ≤ length numbers.now)) }
-{
-    let count = numbers.len();
-    if count < 3 {
-        return None;
-    }
-    let rules = numbers[2] as usize;
-    if count - 3 < rules {
-        return None;
-    }
-    Some(rules)
-}
-
-// Where the last body ends, or how many rules stand before the first that is off.
-fn bodies_end(numbers: &[u16], rules: usize) -> Result<usize, usize>
-    requires stated { rules ≡ stated numbers.now }
+// Where the last body ends, if each lies where the contents have it, behind the one before.
+fn bodies_end(numbers: &[u16], contents: &[u16]) -> Result<usize, Refusal>
     requires listed { 3 + stated numbers.now ≤ length numbers.now }
-    ensures { MatchResult result (λ end. (end < length numbers.now → ToldAt numbers.now (rules + 1)) × (length numbers.now ≤ end → InLayout numbers.now)) (λ before. (before < rules) × ToldAt numbers.now (before + 1)) }
+    requires contents { contents.now ≡ take (stated numbers.now) (drop 3 numbers.now) }
+    ensures { MatchResult result (λ end. (end < length numbers.now → Refused numbers.now (Refusal.Layout (stated numbers.now + 1))) × (length numbers.now ≤ end → InLayout numbers.now)) (λ e. Refused numbers.now e) }
 {
-    let mut at = 3 + rules;
-    for rule in 0..rules {
-        let Some(end) = body_end(numbers, 3 + rule, at) else {
-            return Err(rule);
+    let mut at = 3 + contents.len();
+    for (rule, place) in contents.iter().enumerate() {
+        let Some(end) = body_end(numbers, *place as usize, at) else {
+            return Err(Refusal::Layout {
+                rule: rule as u32 + 1,
+            });
         };
         at = end;
     }
     Ok(at)
 }
 
-// Where a body that has to begin here ends, if its entry in the contents says so and it is all there.
-fn body_end(numbers: &[u16], listed_at: usize, at: usize) -> Option<usize>
-    requires entry { listed_at < length numbers.now }
-    requires begin { at ≤ length numbers.now }
-    ensures { MatchOption result ((slice_index_or numbers.now listed_at 0 ≡ at → length numbers.now < at + 2 + slice_index numbers.now (at + 1))) (λ end. (slice_index_or numbers.now listed_at 0 ≡ at) × (end ≡ at + 2 + slice_index numbers.now (at + 1)) × (end ≤ length numbers.now)) }
+// Where the body that has to begin here ends, if the contents say so and it is all there.
+fn body_end(numbers: &[u16], place: usize, at: usize) -> Option<usize>
+    requires { at ≤ length numbers.now }
+    ensures { MatchOption result (place ≡ at → length numbers.now < at + 2 + slice_index numbers.now (at + 1)) (λ end. (place ≡ at) × (end ≡ at + 2 + slice_index numbers.now (at + 1)) × (end ≤ length numbers.now)) }
 {
-    let count = numbers.len();
-    if numbers[listed_at] as usize != at || count - at < 2 {
+    if place != at {
         return None;
     }
-    let codes = numbers[at + 1] as usize;
-    if count - at - 2 < codes {
-        return None;
-    }
-    Some(at + 2 + codes)
+    let codes = *numbers.get(at + 1)? as usize;
+    let end = at + 2 + codes;
+    (end <= numbers.len()).then_some(end)
 }
 
 impl<'a> RuleSheet for PackedSheet<'a> {
     ghost meaning = { λ s. unpacked s.numbers.now };
 
     fn terminals(&self) -> u16 {
-        self.counts().0
+        self.numbers[0]
     }
 
     fn nonterminals(&self) -> u16 {
-        self.counts().1
+        self.numbers[1]
     }
 
     fn rules(&self) -> u16 {
-        self.counts().2
+        self.numbers[2]
     }
 
     fn left(&self, rule: u16) -> Option<u16> {
-        let at = self.place(rule)?;
-        Some(self.numbers[at])
+        self.rule(rule).map(|(left, _)| left)
     }
 
     fn length(&self, rule: u16) -> Option<u16> {
-        let at = self.place(rule)?;
-        Some(self.numbers[at + 1])
+        self.rule(rule).map(|(_, codes)| codes.len() as u16)
     }
 
     fn code(&self, rule: u16, place: u16) -> Option<u16> {
-        let at = self.place(rule)?;
-        if place >= self.numbers[at + 1] {
-            return None;
-        }
-        Some(self.numbers[at + 2 + place as usize])
+        let (_, codes) = self.rule(rule)?;
+        codes.get(place as usize).copied()
     }
 }
 

@@ -1,8 +1,10 @@
-ghost use Rattle.std.specs.Prelude.{◌≡◌, ◌+◌, ◌<◌, ◌≤◌, length, MatchOption};
-ghost use Rattle.sheet.specs.Packing.{ends, packed};
-ghost use Rattle.sheet.specs.Packs.{Front, Narrow, NarrowEnds, Packs, PacksNot, size_at};
+ghost use Rattle.std.specs.Prelude.{◌≡◌, ◌+◌, ◌<◌, ◌≤◌, ◌^◌, length, MatchOption};
+ghost use Rattle.sheet.specs.Packing.{bodies, body, contents, packed};
+ghost use Rattle.sheet.specs.Packs.{Narrow, NarrowPlaces, Packs, PacksNot, rule_at};
 
 use super::rule_sheet::RuleSheet;
+
+// Sheet and list come beside each other, since each function writes a part of the list of its own.
 
 // Packs any sheet into the front of a lent list, and tells how many numbers that took.
 // A packing that does not fit is not begun.
@@ -13,27 +15,13 @@ pub fn pack<S: RuleSheet>(sheet: &S, out: &mut [u16]) -> Option<usize>
     if out.len() < size {
         return None;
     }
-    put(sheet, size, out);
+    put(sheet, &mut out[..size]);
     Some(size)
 }
 
-// Writes the packing, of this length, in front.
-fn put<S: RuleSheet>(sheet: &S, size: usize, out: &mut [u16])
-    requires sized { size ≡ length (packed (S.RuleSheet.meaning sheet.now)) }
-    requires room { size ≤ length out.old }
-    requires narrow { NarrowEnds (S.RuleSheet.meaning sheet.now) }
-    ensures { Packs (S.RuleSheet.meaning sheet.now) out.old out.new size }
-{
-    out[0] = sheet.terminals();
-    out[1] = sheet.nonterminals();
-    out[2] = sheet.rules();
-    put_contents(sheet, out);
-    put_bodies(sheet, out);
-}
-
-// How long the packing is, if each place has at most 16 bits.
+// How long the packing is, if each place has at most 16 bits. A sheet is read by rule numbers, so the loop counts them.
 fn packed_size<S: RuleSheet>(sheet: &S) -> Option<usize>
-    ensures { MatchOption result (Narrow (packed (S.RuleSheet.meaning sheet.now)) → ⊥) (λ n. (n ≡ length (packed (S.RuleSheet.meaning sheet.now))) × NarrowEnds (S.RuleSheet.meaning sheet.now)) }
+    ensures { MatchOption result (Narrow (packed (S.RuleSheet.meaning sheet.now)) → ⊥) (λ n. (n ≡ length (packed (S.RuleSheet.meaning sheet.now))) × NarrowPlaces (S.RuleSheet.meaning sheet.now)) }
 {
     let rules = sheet.rules();
     let mut at = 3 + rules as usize;
@@ -41,7 +29,7 @@ fn packed_size<S: RuleSheet>(sheet: &S) -> Option<usize>
         if at > 65535 {
             return None;
         }
-        at = at + 2 + size(sheet, i) as usize;
+        at += 2 + size(sheet, i) as usize;
     }
     Some(at)
 }
@@ -50,67 +38,72 @@ fn packed_size<S: RuleSheet>(sheet: &S) -> Option<usize>
 fn size<S: RuleSheet>(sheet: &S, i: u16) -> u16
     requires within { i < length (S.RuleSheet.meaning sheet.now).rules }
     requires small { i < 65535 }
-    ensures { result ≡ size_at (S.RuleSheet.meaning sheet.now) i }
+    ensures { result ≡ length (rule_at (S.RuleSheet.meaning sheet.now) i).right }
 {
     sheet.length(i + 1).unwrap_or(0)
 }
 
-// Writes the place of each body, behind the counts.
+// Writes the packing over a list of its length.
+fn put<S: RuleSheet>(sheet: &S, out: &mut [u16])
+    requires whole { length out.old ≡ length (packed (S.RuleSheet.meaning sheet.now)) }
+    requires narrow { NarrowPlaces (S.RuleSheet.meaning sheet.now) }
+    ensures { out.new ≡ packed (S.RuleSheet.meaning sheet.now) }
+{
+    let (counts, rest) = out.split_at_mut(3);
+    counts.copy_from_slice(&[sheet.terminals(), sheet.nonterminals(), sheet.rules()]);
+    let (places, behind) = rest.split_at_mut(sheet.rules() as usize);
+    put_contents(sheet, places);
+    put_bodies(sheet, behind);
+}
+
+// Writes the place of each body.
 fn put_contents<S: RuleSheet>(sheet: &S, out: &mut [u16])
-    requires front { Front (packed (S.RuleSheet.meaning sheet.now)) out.old 3 out.old }
-    requires room { length (packed (S.RuleSheet.meaning sheet.now)) ≤ length out.old }
-    requires narrow { NarrowEnds (S.RuleSheet.meaning sheet.now) }
-    ensures { Front (packed (S.RuleSheet.meaning sheet.now)) out.old (3 + length (S.RuleSheet.meaning sheet.now).rules) out.new }
+    requires whole { length out.old ≡ length (S.RuleSheet.meaning sheet.now).rules }
+    requires narrow { NarrowPlaces (S.RuleSheet.meaning sheet.now) }
+    requires small { length out.old < 2 ^ 16 }
+    ensures { out.new ≡ contents (3 + length (S.RuleSheet.meaning sheet.now).rules) (S.RuleSheet.meaning sheet.now).rules }
 {
-    let rules = sheet.rules();
-    let mut at = 3 + rules as usize;
-    for i in 0..rules {
-        out[3 + i as usize] = at as u16;
-        at = at + 2 + size(sheet, i) as usize;
+    let mut at = 3 + out.len();
+    for (i, place) in out.iter_mut().enumerate() {
+        *place = at as u16;
+        at += 2 + size(sheet, i as u16) as usize;
     }
 }
 
-// Writes each body behind the one before, the first behind the contents.
+// Writes the bodies, one behind another. A sheet is read by rule numbers, so the loop counts them.
 fn put_bodies<S: RuleSheet>(sheet: &S, out: &mut [u16])
-    requires front { Front (packed (S.RuleSheet.meaning sheet.now)) out.old (3 + length (S.RuleSheet.meaning sheet.now).rules) out.old }
-    requires room { length (packed (S.RuleSheet.meaning sheet.now)) ≤ length out.old }
-    ensures { Front (packed (S.RuleSheet.meaning sheet.now)) out.old (length (packed (S.RuleSheet.meaning sheet.now))) out.new }
+    requires whole { length out.old ≡ length (bodies (S.RuleSheet.meaning sheet.now).rules) }
+    ensures { out.new ≡ bodies (S.RuleSheet.meaning sheet.now).rules }
 {
-    let rules = sheet.rules();
-    let mut at = 3 + rules as usize;
-    for i in 0..rules {
-        at = put_body(sheet, i, at, out);
+    let mut at = 0;
+    for i in 0..sheet.rules() {
+        let end = at + 2 + size(sheet, i) as usize;
+        put_body(sheet, i, &mut out[at..end]);
+        at = end;
     }
 }
 
-// Writes the body of the rule after rule i, from a place on, and tells where it ends.
-fn put_body<S: RuleSheet>(sheet: &S, i: u16, at: usize, out: &mut [u16]) -> usize
+// Writes the body of the rule after rule i.
+fn put_body<S: RuleSheet>(sheet: &S, i: u16, out: &mut [u16])
     requires within { i < length (S.RuleSheet.meaning sheet.now).rules }
     requires small { i < 65535 }
-    requires behind { at ≡ ends (packed (S.RuleSheet.meaning sheet.now)) i }
-    requires front { Front (packed (S.RuleSheet.meaning sheet.now)) out.old at out.old }
-    requires room { length (packed (S.RuleSheet.meaning sheet.now)) ≤ length out.old }
-    ensures end { result ≡ ends (packed (S.RuleSheet.meaning sheet.now)) (i + 1) }
-    ensures front { Front (packed (S.RuleSheet.meaning sheet.now)) out.old result out.new }
+    requires whole { length out.old ≡ length (body (rule_at (S.RuleSheet.meaning sheet.now) i)) }
+    ensures { out.new ≡ body (rule_at (S.RuleSheet.meaning sheet.now) i) }
 {
-    let codes = size(sheet, i);
-    out[at] = sheet.left(i + 1).unwrap_or(0);
-    out[at + 1] = codes;
-    put_codes(sheet, i, codes, at + 2, out);
-    at + 2 + codes as usize
+    let (head, codes) = out.split_at_mut(2);
+    head.copy_from_slice(&[sheet.left(i + 1).unwrap_or(0), size(sheet, i)]);
+    put_codes(sheet, i, codes);
 }
 
-// Writes the codes of the rule after rule i, from a place on.
-fn put_codes<S: RuleSheet>(sheet: &S, i: u16, codes: u16, at: usize, out: &mut [u16])
+// Writes the codes of the rule after rule i.
+fn put_codes<S: RuleSheet>(sheet: &S, i: u16, out: &mut [u16])
     requires within { i < length (S.RuleSheet.meaning sheet.now).rules }
     requires small { i < 65535 }
-    requires behind { at ≡ ends (packed (S.RuleSheet.meaning sheet.now)) i + 2 }
-    requires sized { codes ≡ size_at (S.RuleSheet.meaning sheet.now) i }
-    requires front { Front (packed (S.RuleSheet.meaning sheet.now)) out.old at out.old }
-    requires room { length (packed (S.RuleSheet.meaning sheet.now)) ≤ length out.old }
-    ensures { Front (packed (S.RuleSheet.meaning sheet.now)) out.old (at + codes) out.new }
+    requires whole { length out.old ≡ length (rule_at (S.RuleSheet.meaning sheet.now) i).right }
+    requires narrow { length out.old < 2 ^ 16 }
+    ensures { out.new ≡ (rule_at (S.RuleSheet.meaning sheet.now) i).right }
 {
-    for k in 0..codes {
-        out[at + k as usize] = sheet.code(i + 1, k).unwrap_or(0);
+    for (k, place) in out.iter_mut().enumerate() {
+        *place = sheet.code(i + 1, k as u16).unwrap_or(0);
     }
 }

@@ -1,154 +1,90 @@
-ghost use Rattle.std.specs.Prelude.{◌≡◌, ◌+◌, ◌-◌, ◌<◌, ◌≤◌, min, length, Decides, MatchOption, MatchResult};
+ghost use Rattle.std.specs.Prelude.{◌≡◌, ◌+◌, ◌<◌, ◌≤◌, [], length, Decides, IfErr, MatchOption, None, OnErr, OnOk, Some};
+ghost use Rattle.grammar.specs.Grammar.{AllCodes};
 ghost use Rattle.grammar.specs.Refusals.{told};
-ghost use Rattle.sheet.specs.Supplements.{Added, InRange, NotAdded, Stands, StandsBy, WithinLimits, supplemented, with_rule};
+ghost use Rattle.sheet.specs.Readings.{rule_told};
+ghost use Rattle.sheet.specs.ShortRules.{rule_of};
+ghost use Rattle.sheet.specs.Supplements.{Added, InRange, NotAdded, own_rules, supplemented};
 
-use super::own_rule::OwnRule;
 use super::rule_sheet::RuleSheet;
-use super::standing::Standing;
+use super::short_rule::ShortRule;
+use bounded::BoundedList;
 use grammar::Refusal;
 
 // A sheet made of any other, with up to 16 rules of its own behind those.
 #[derive(Drop)]
 pub struct Supplement<S> {
     sheet: S,
-    count: usize,
-    own: [OwnRule; 16],
-    ghost some: { count ≤ 16 },
-    ghost table: { length own ≡ 16 },
+    own: BoundedList<ShortRule, 16>,
 }
 
 impl<S: RuleSheet> Supplement<S> {
     // The sheet alone, with no rule added yet.
     pub fn new(sheet: S) -> Supplement<S>
-        ensures means { supplemented (S.RuleSheet.meaning result.sheet) result.count result.own ≡ S.RuleSheet.meaning sheet }
-        ensures none { result.count ≡ 0 }
+        ensures means { supplemented S.RuleSheet.meaning result ≡ S.RuleSheet.meaning sheet }
+        ensures none { own_rules result ≡ [] }
     {
-        let blank = OwnRule::new(0, &[]);
         Supplement {
             sheet,
-            count: 0,
-            own: [blank; 16],
+            own: BoundedList::new(ShortRule::new(0)),
         }
     }
 
     // How many rules of its own there are.
     pub fn own_rules(&self) -> u8
-        ensures count { result ≡ self.now.count }
+        ensures { result ≡ length (own_rules self.now) }
     {
-        self.count as u8
+        self.own.len() as u8
     }
 
     // Adds a rule behind the others. Limits are tried first, then the range; a refusal changes nothing.
     pub fn add(&mut self, left: u16, codes: &[u16]) -> Result<(), Refusal>
-        ensures answer { MatchResult result (λ _. Added (supplemented (S.RuleSheet.meaning self.old.sheet) self.old.count self.old.own) self.old.count left codes.now (supplemented (S.RuleSheet.meaning self.new.sheet) self.new.count self.new.own) self.new.count) (λ e. NotAdded (supplemented (S.RuleSheet.meaning self.old.sheet) self.old.count self.old.own) self.old.count left codes.now (told e) × (self.new ≡ self.old)) }
-    {
-        match self.refusal(left, codes) {
-            Some(refusal) => Err(refusal),
-            None => {
-                self.push(left, codes);
-                Ok(())
-            }
-        }
-    }
-
-    // Why a rule cannot be added, if it cannot.
-    fn refusal(&self, left: u16, codes: &[u16]) -> Option<Refusal>
-        ensures { MatchOption result (WithinLimits (supplemented (S.RuleSheet.meaning self.now.sheet) self.now.count self.now.own) self.now.count codes.now × InRange (supplemented (S.RuleSheet.meaning self.now.sheet) self.now.count self.now.own) left codes.now) (λ e. NotAdded (supplemented (S.RuleSheet.meaning self.now.sheet) self.now.count self.now.own) self.now.count left codes.now (told e)) }
+        ensures added { OnOk result (Added S.RuleSheet.meaning self.old left codes.now self.new) }
+        ensures refused { IfErr result (λ e. NotAdded (supplemented S.RuleSheet.meaning self.old) (length (own_rules self.old)) left codes.now (told e)) }
+        ensures unchanged { OnErr result (self.new ≡ self.old) }
     {
         let rules = self.rules();
-        if !within_limits(rules, self.count, codes.len()) {
-            return Some(Refusal::Limits);
+        if rules >= 96 || self.own.is_full() {
+            return Err(Refusal::Limits);
         }
+        let Ok(rule) = ShortRule::with_codes(left, codes) else {
+            return Err(Refusal::Limits);
+        };
         if !in_range(self, left, codes) {
-            return Some(Refusal::Range { rule: rules + 1 });
+            return Err(Refusal::Range { rule: rules + 1 });
         }
-        None
+        self.own.push(rule).map_err(|_| Refusal::Limits)
     }
 
-    // Puts one more rule into the inner table.
-    fn push(&mut self, left: u16, codes: &[u16])
-        requires { WithinLimits (supplemented (S.RuleSheet.meaning self.old.sheet) self.old.count self.old.own) self.old.count codes.now }
-        ensures appended { supplemented (S.RuleSheet.meaning self.new.sheet) self.new.count self.new.own ≡ with_rule (supplemented (S.RuleSheet.meaning self.old.sheet) self.old.count self.old.own) left codes.now }
-        ensures counted { self.new.count ≡ self.old.count + 1 }
+    // The rule with this number, if it is one of its own.
+    fn own_rule(&self, rule: u16) -> Option<ShortRule>
+        ensures { MatchOption result (rule_told (supplemented S.RuleSheet.meaning self.now) rule ≡ rule_told (S.RuleSheet.meaning self.now.sheet) rule) (λ own. rule_told (supplemented S.RuleSheet.meaning self.now) rule ≡ Some (rule_of own)) }
     {
-        let count = self.count;
-        self.own[count] = OwnRule::new(left, codes);
-        self.count = count + 1;
+        if rule > 96 {
+            return None;
+        }
+        let behind = rule.checked_sub(self.sheet.rules())?;
+        self.own.get(behind.checked_sub(1)? as usize)
     }
-
-    // Whose the rule with this number is.
-    fn stands(&self, rule: u16) -> Standing
-        ensures { Stands (S.RuleSheet.meaning self.now.sheet) self.now.count self.now.own rule result }
-    {
-        stands_by(rule, self.sheet.rules(), self.count)
-    }
-}
-
-// Whose a rule is, with so many rules below and so many of its own.
-fn stands_by(rule: u16, below: u16, own: usize) -> Standing
-    ensures { StandsBy rule below own result }
-{
-    if rule <= below {
-        return Standing::Below;
-    }
-    let i = (rule - below - 1) as usize;
-    if i < own && rule <= 96 {
-        Standing::Own(i)
-    } else {
-        Standing::Outside
-    }
-}
-
-// The number of rules, with so many below and so many of its own.
-fn in_all(below: u16, own: usize) -> u16
-    requires { own ≤ 16 }
-    ensures { result ≡ below + min own (96 - below) }
-{
-    if below >= 96 {
-        return below;
-    }
-    let all = below + own as u16;
-    if all < 96 { all } else { 96 }
-}
-
-// Whether one more rule, with so many codes, keeps the limits.
-fn within_limits(rules: u16, own: usize, codes: usize) -> bool
-    ensures { Decides result ((rules + 1 ≤ 96) × (own + 1 ≤ 16) × (codes ≤ 8)) }
-{
-    rules < 96 && own < 16 && codes <= 8
 }
 
 // Whether the left side is a nonterminal of the sheet, and each code a terminal or a nonterminal.
 fn in_range<S: RuleSheet>(sheet: &S, left: u16, codes: &[u16]) -> bool
     ensures { Decides result (InRange (S.RuleSheet.meaning sheet.now) left codes.now) }
 {
-    let terminals = sheet.terminals();
-    let nonterminals = sheet.nonterminals();
-    if !is_nonterminal(terminals, nonterminals, left) {
-        return false;
-    }
-    for code in codes {
-        if !is_code(terminals, nonterminals, *code) {
-            return false;
-        }
-    }
-    true
+    left > sheet.terminals() && are_codes(sheet, &[left]) && are_codes(sheet, codes)
 }
 
-fn is_nonterminal(terminals: u16, nonterminals: u16, code: u16) -> bool
-    ensures { Decides result ((terminals < code) × (code ≤ terminals + nonterminals)) }
+// Whether each code is a terminal or a nonterminal of the sheet.
+#[tactic(auto, using(crate::proofs::Ranges::codes_from_within, crate::proofs::Ranges::within_from_codes))]
+fn are_codes<S: RuleSheet>(sheet: &S, codes: &[u16]) -> bool
+    ensures { Decides result (AllCodes (S.RuleSheet.meaning sheet.now) codes.now) }
 {
-    code > terminals && code as u32 <= terminals as u32 + nonterminals as u32
-}
-
-fn is_code(terminals: u16, nonterminals: u16, code: u16) -> bool
-    ensures { Decides result ((1 ≤ code) × (code ≤ terminals + nonterminals)) }
-{
-    code >= 1 && code as u32 <= terminals as u32 + nonterminals as u32
+    let last = sheet.terminals() as u32 + sheet.nonterminals() as u32;
+    codes.iter().all(|&code| code >= 1 && code as u32 <= last)
 }
 
 impl<S: RuleSheet> RuleSheet for Supplement<S> {
-    ghost meaning = { λ s. supplemented (S.RuleSheet.meaning s.sheet) s.count s.own };
+    ghost meaning = { supplemented S.RuleSheet.meaning };
 
     fn terminals(&self) -> u16 {
         self.sheet.terminals()
@@ -159,30 +95,29 @@ impl<S: RuleSheet> RuleSheet for Supplement<S> {
     }
 
     fn rules(&self) -> u16 {
-        in_all(self.sheet.rules(), self.count)
+        let below = self.sheet.rules();
+        below + (self.own.len() as u16).min(96u16.saturating_sub(below))
     }
 
+    // One reading each, since each asks the rule, or the sheet below, for something else.
     fn left(&self, rule: u16) -> Option<u16> {
-        match self.stands(rule) {
-            Standing::Below => self.sheet.left(rule),
-            Standing::Own(i) => Some(self.own[i].left),
-            Standing::Outside => None,
+        match self.own_rule(rule) {
+            Some(own) => Some(own.left()),
+            None => self.sheet.left(rule),
         }
     }
 
     fn length(&self, rule: u16) -> Option<u16> {
-        match self.stands(rule) {
-            Standing::Below => self.sheet.length(rule),
-            Standing::Own(i) => Some(self.own[i].size),
-            Standing::Outside => None,
+        match self.own_rule(rule) {
+            Some(own) => Some(own.length()),
+            None => self.sheet.length(rule),
         }
     }
 
     fn code(&self, rule: u16, place: u16) -> Option<u16> {
-        match self.stands(rule) {
-            Standing::Below => self.sheet.code(rule, place),
-            Standing::Own(i) => self.own[i].code(place),
-            Standing::Outside => None,
+        match self.own_rule(rule) {
+            Some(own) => own.code(place),
+            None => self.sheet.code(rule, place),
         }
     }
 }

@@ -5,20 +5,10 @@ static SAMPLE: [u16; 21] = [
     3, 3, 4, 7, 11, 15, 19, 4, 2, 5, 6, 5, 2, 1, 2, 6, 2, 3, 6, 6, 0,
 ];
 
-const OPENED: u32 = 100000;
-
-// What an opening told: the rule that is off, or that none is.
-fn told(answer: Result<(), Refusal>) -> u32 {
-    match answer {
-        Ok(()) => OPENED,
-        Err(Refusal::Layout { rule }) => rule,
-        Err(_) => 200000,
-    }
-}
-
-fn opened(numbers: &[u16]) -> u32 {
+// One such function for each kind of sheet: they open numbers here and text there.
+fn opened(numbers: &[u16]) -> Result<(), Refusal> {
     let mut sheet = PackedSheet::new();
-    told(sheet.open(numbers))
+    sheet.open(numbers)
 }
 
 // Whether nothing is told of a rule.
@@ -29,7 +19,7 @@ fn silent(sheet: &PackedSheet, rule: u16) -> bool {
 #[test]
 fn sample_opens_and_packs_again(rt: HostRuntime) {
     let mut sheet = PackedSheet::new();
-    assert!(rt; told(sheet.open(&SAMPLE)) == OPENED);
+    assert_eq!(rt; sheet.open(&SAMPLE), Ok(()));
     let mut out = [7; 21];
     assert_eq!(rt; pack(&sheet, &mut out), Some(21));
     assert_eq!(rt; out, SAMPLE);
@@ -38,7 +28,7 @@ fn sample_opens_and_packs_again(rt: HostRuntime) {
 #[test]
 fn readings_keep_inside(rt: HostRuntime) {
     let mut sheet = PackedSheet::new();
-    assert!(rt; told(sheet.open(&SAMPLE)) == OPENED);
+    assert_eq!(rt; sheet.open(&SAMPLE), Ok(()));
     assert_eq!(rt;
         (sheet.left(1), sheet.length(2), sheet.code(3, 1)),
         (Some(4), Some(2), Some(6))
@@ -50,36 +40,69 @@ fn readings_keep_inside(rt: HostRuntime) {
 #[test]
 fn refused_opening_leaves_nothing(rt: HostRuntime) {
     let mut sheet = PackedSheet::new();
-    assert!(rt; told(sheet.open(&SAMPLE)) == OPENED);
-    assert!(rt; told(sheet.open(&SAMPLE[0..20])) == 4);
+    assert_eq!(rt; sheet.open(&SAMPLE), Ok(()));
+    assert_eq!(rt;
+        sheet.open(&SAMPLE[0..20]),
+        Err(Refusal::Layout { rule: 4 })
+    );
     assert!(rt; sheet.terminals() == 0 && sheet.nonterminals() == 0 && sheet.rules() == 0);
     assert!(rt; silent(&sheet, 1));
 }
 
 #[test]
 fn each_cause_is_told(rt: HostRuntime) {
-    assert!(rt; opened(&[]) == 0, "no numbers");
-    assert!(rt; opened(&[3, 3]) == 0, "two numbers");
-    assert!(rt; opened(&[1, 1, 2, 5]) == 0, "contents cut");
-    assert!(rt;
-        opened(&[1, 1, 65535, 4]) == 0,
+    assert_eq!(rt; opened(&[]), Err(Refusal::Layout { rule: 0 }), "no numbers");
+    assert_eq!(rt;
+        opened(&[3, 3]),
+        Err(Refusal::Layout { rule: 0 }),
+        "two numbers"
+    );
+    assert_eq!(rt;
+        opened(&[1, 1, 2, 5]),
+        Err(Refusal::Layout { rule: 0 }),
+        "contents cut"
+    );
+    assert_eq!(rt;
+        opened(&[1, 1, 65535, 4]),
+        Err(Refusal::Layout { rule: 0 }),
         "most of 65,535 places missing"
     );
-    assert!(rt; opened(&[1, 1, 1, 5, 2, 0]) == 1, "first place wrong");
-    assert!(rt;
-        opened(&[1, 1, 2, 5, 6, 2, 1, 1, 2, 0]) == 2,
+    assert_eq!(rt;
+        opened(&[1, 1, 1, 5, 2, 0]),
+        Err(Refusal::Layout { rule: 1 }),
+        "first place wrong"
+    );
+    assert_eq!(rt;
+        opened(&[1, 1, 2, 5, 6, 2, 1, 1, 2, 0]),
+        Err(Refusal::Layout { rule: 2 }),
         "a body inside another"
     );
-    assert!(rt; opened(&[1, 1, 1, 4, 2]) == 1, "body without its length");
-    assert!(rt; opened(&[1, 1, 1, 4, 2, 3, 1, 1]) == 1, "body cut");
-    assert!(rt; opened(&[1, 1, 1, 4, 2, 0, 9]) == 2, "a number behind");
-    assert!(rt; opened(&[1, 1, 0, 9]) == 1, "a number behind no rule");
+    assert_eq!(rt;
+        opened(&[1, 1, 1, 4, 2]),
+        Err(Refusal::Layout { rule: 1 }),
+        "body without its length"
+    );
+    assert_eq!(rt;
+        opened(&[1, 1, 1, 4, 2, 3, 1, 1]),
+        Err(Refusal::Layout { rule: 1 }),
+        "body cut"
+    );
+    assert_eq!(rt;
+        opened(&[1, 1, 1, 4, 2, 0, 9]),
+        Err(Refusal::Layout { rule: 2 }),
+        "a number behind"
+    );
+    assert_eq!(rt;
+        opened(&[1, 1, 0, 9]),
+        Err(Refusal::Layout { rule: 1 }),
+        "a number behind no rule"
+    );
 }
 
 #[test]
 fn packing_leaves_the_rest(rt: HostRuntime) {
     let mut sheet = PackedSheet::new();
-    assert!(rt; told(sheet.open(&[1, 1, 1, 4, 2, 1, 1])) == OPENED);
+    assert_eq!(rt; sheet.open(&[1, 1, 1, 4, 2, 1, 1]), Ok(()));
     let mut small = [7; 6];
     assert_eq!(rt; pack(&sheet, &mut small), None);
     assert_eq!(rt; small, [7; 6]);
@@ -96,7 +119,7 @@ fn packing_needs_narrow_places(rt: HostRuntime) {
     numbers[4] = 2;
     numbers[5] = 65530;
     let mut sheet = PackedSheet::new();
-    assert!(rt; told(sheet.open(&numbers)) == OPENED);
+    assert_eq!(rt; sheet.open(&numbers), Ok(()));
     let mut out = [7; 66000];
     assert_eq!(rt; pack(&sheet, &mut out), Some(65536));
     let mut more = Supplement::new(sheet);

@@ -8,24 +8,10 @@ static SMALL: [u16; 7] = [1, 1, 1, 4, 2, 1, 1];
 // Terminals and nonterminals whose codes pass 16 bits in sum.
 static WIDE: [u16; 3] = [65534, 65535, 0];
 
-const ADDED: u16 = 1000;
-
-const LIMITS: u16 = 3000;
-
-// What adding a rule told: that it is added, past a limit, or which rule is out of range.
-fn told(answer: Result<(), Refusal>) -> u16 {
-    match answer {
-        Ok(()) => ADDED,
-        Err(Refusal::Limits) => LIMITS,
-        Err(Refusal::Range { rule }) => rule,
-        Err(_) => 9000,
-    }
-}
-
 // Adds sixteen rules.
 fn fill<S: RuleSheet>(rt: &impl Abort, sheet: &mut Supplement<S>) {
     for _ in 0..16 {
-        assert!(rt; told(sheet.add(2, &[1])) == ADDED);
+        assert_eq!(rt; sheet.add(2, &[1]), Ok(()));
     }
 }
 
@@ -34,7 +20,7 @@ fn own_rules_stand_behind(rt: HostRuntime) {
     let mut sheet = PackedSheet::new();
     assert!(rt; sheet.open(&SMALL).is_ok());
     let mut more = Supplement::new(sheet);
-    assert!(rt; told(more.add(2, &[2, 1])) == ADDED);
+    assert_eq!(rt; more.add(2, &[2, 1]), Ok(()));
     assert!(rt; more.own_rules() == 1);
     let mut out = [7; 12];
     assert_eq!(rt; pack(&more, &mut out), Some(12));
@@ -52,13 +38,14 @@ fn limits_come_before_range(rt: HostRuntime) {
     let mut sheet = PackedSheet::new();
     assert!(rt; sheet.open(&SMALL).is_ok());
     let mut more = Supplement::new(sheet);
-    assert!(rt; told(more.add(2, &[1; 9])) == LIMITS, "a ninth code");
-    assert!(rt; told(more.add(2, &[1; 8])) == ADDED, "eight codes");
+    assert_eq!(rt; more.add(2, &[1; 9]), Err(Refusal::Limits), "a ninth code");
+    assert_eq!(rt; more.add(2, &[1; 8]), Ok(()), "eight codes");
     let mut full = Supplement::new(more);
     fill(&rt, &mut full);
-    assert!(rt; told(full.add(2, &[1])) == LIMITS, "a 17th rule");
-    assert!(rt;
-        told(full.add(0, &[0])) == LIMITS,
+    assert_eq!(rt; full.add(2, &[1]), Err(Refusal::Limits), "a 17th rule");
+    assert_eq!(rt;
+        full.add(0, &[0]),
+        Err(Refusal::Limits),
         "a 17th rule, out of range too"
     );
     assert!(rt; full.rules() == 18 && full.own_rules() == 16 && full.left(19).is_none());
@@ -69,16 +56,14 @@ fn codes_keep_to_their_range(rt: HostRuntime) {
     let mut sheet = PackedSheet::new();
     assert!(rt; sheet.open(&SMALL).is_ok());
     let mut more = Supplement::new(sheet);
-    assert!(rt;
-        told(more.add(1, &[])) == 2 && told(more.add(3, &[])) == 2,
-        "left side"
-    );
-    assert!(rt;
-        told(more.add(2, &[1, 0])) == 2 && told(more.add(2, &[3, 1])) == 2,
-        "codes"
-    );
+    let second = Err(Refusal::Range { rule: 2 });
+    assert_eq!(rt; more.add(1, &[]), second, "left side below");
+    assert_eq!(rt; more.add(3, &[]), second, "left side past");
+    assert_eq!(rt; more.add(2, &[1, 0]), second, "code 0");
+    assert_eq!(rt; more.add(2, &[3, 1]), second, "code past");
     assert!(rt; more.rules() == 1 && more.own_rules() == 0);
-    assert!(rt; told(more.add(2, &[1, 2])) == ADDED && told(more.add(0, &[])) == 3);
+    assert_eq!(rt; more.add(2, &[1, 2]), Ok(()));
+    assert_eq!(rt; more.add(0, &[]), Err(Refusal::Range { rule: 3 }));
 }
 
 #[test]
@@ -86,7 +71,8 @@ fn codes_may_pass_16_bits_in_sum(rt: HostRuntime) {
     let mut wide = PackedSheet::new();
     assert!(rt; wide.open(&WIDE).is_ok());
     let mut more = Supplement::new(wide);
-    assert!(rt; told(more.add(65534, &[])) == 1 && told(more.add(65535, &[65535])) == ADDED);
+    assert_eq!(rt; more.add(65534, &[]), Err(Refusal::Range { rule: 1 }));
+    assert_eq!(rt; more.add(65535, &[65535]), Ok(()));
 }
 
 #[test]
@@ -107,6 +93,6 @@ fn no_more_than_96_rules(rt: HostRuntime) {
     fill(&rt, &mut f);
     assert!(rt; f.rules() == 96 && f.left(97).is_none());
     let mut last = Supplement::new(f);
-    assert!(rt; told(last.add(2, &[1])) == LIMITS);
+    assert_eq!(rt; last.add(2, &[1]), Err(Refusal::Limits));
     assert!(rt; last.rules() == 96 && last.own_rules() == 0 && last.code(96, 0).is_some());
 }

@@ -7,24 +7,16 @@ static SAMPLE: &str = "line : edit tail ; edit : \"move\" \"wall\" ; tail : \"si
 
 // Whether two sheets tell the same of a rule.
 fn rule_alike<A: RuleSheet, B: RuleSheet>(a: &A, b: &B, rule: u16) -> bool {
-    if a.left(rule) != b.left(rule) || a.length(rule) != b.length(rule) {
-        return false;
-    }
-    for place in 0..9 {
-        if a.code(rule, place) != b.code(rule, place) {
-            return false;
-        }
-    }
-    true
+    a.left(rule) == b.left(rule)
+        && a.length(rule) == b.length(rule)
+        && (0..9).all(|place| a.code(rule, place) == b.code(rule, place))
 }
 
 fn alike<A: RuleSheet, B: RuleSheet>(a: &A, b: &B) -> bool {
-    for rule in 0..98 {
-        if !rule_alike(a, b, rule) {
-            return false;
-        }
-    }
-    a.terminals() == b.terminals() && a.nonterminals() == b.nonterminals() && a.rules() == b.rules()
+    a.terminals() == b.terminals()
+        && a.nonterminals() == b.nonterminals()
+        && a.rules() == b.rules()
+        && (0..98).all(|rule| rule_alike(a, b, rule))
 }
 
 // The text packs to just these numbers, and they open as a sheet that reads the same.
@@ -70,10 +62,7 @@ fn numbers_go_by_first_appearance(rt: HostRuntime) {
 
 // Whether a code has this spelling.
 fn spells(sheet: &WrittenSheet<'_>, code: u16, spelling: &str) -> bool {
-    match sheet.spelling(code) {
-        Some(bytes) => bytes == spelling.as_bytes(),
-        None => false,
-    }
+    sheet.spelling(code) == Some(spelling.as_bytes())
 }
 
 #[test]

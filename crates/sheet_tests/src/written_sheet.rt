@@ -1,33 +1,20 @@
 // What opening a written sheet tells.
 use grammar::Refusal;
+use grammar::Refusal::{Form, Limits};
 use std::alloc::{AllocError, Global};
 use std::process::Abort;
 use std::test::Fail;
 use written::WrittenSheet;
 
-const OPENED: usize = 100000;
-
-const LIMITS: usize = 300000;
-
-// What an opening told: the place of a fault, that a limit is passed, or that it is done.
-fn told(answer: Result<(), Refusal>) -> usize {
-    match answer {
-        Ok(()) => OPENED,
-        Err(Refusal::Form { place }) => place,
-        Err(Refusal::Limits) => LIMITS,
-        Err(_) => 900000,
-    }
-}
-
-fn opened(text: &[u8]) -> usize {
+fn opened(text: &[u8]) -> Result<(), Refusal> {
     let mut sheet = WrittenSheet::new();
-    told(sheet.open(text))
+    sheet.open(text)
 }
 
 // Each text, with what its opening tells.
-fn all_told(rt: &impl Abort, cases: &[(&str, usize)]) {
-    for (text, place) in cases {
-        assert_eq!(rt; opened(text.as_bytes()), *place, "{}", *text);
+fn all_told(rt: &impl Abort, cases: &[(&str, Result<(), Refusal>)]) {
+    for (text, answer) in cases {
+        assert_eq!(rt; opened(text.as_bytes()), *answer, "{}", *text);
     }
 }
 
@@ -36,22 +23,22 @@ fn what_cannot_stand_is_told(rt: HostRuntime) {
     all_told(
         &rt,
         &[
-            ("?", 0),
-            (":", 0),
-            ("\"a\" : ;", 0),
-            ("li9ne : ;", 2),
-            ("line edit : ;", 5),
-            ("line ; ", 5),
-            ("line | ;", 5),
-            ("line \"a\" ;", 5),
-            ("line : 9 ;", 7),
-            ("line : : ;", 7),
-            ("line : edit : ;", 12),
-            ("a:b:c;", 3),
-            ("a : ; ;", 6),
-            ("a : \"\" ;", 5),
-            ("a : \"b c\" ;", 6),
-            ("a : \"b\nc\" ;", 6),
+            ("?", Err(Form { place: 0 })),
+            (":", Err(Form { place: 0 })),
+            ("\"a\" : ;", Err(Form { place: 0 })),
+            ("li9ne : ;", Err(Form { place: 2 })),
+            ("line edit : ;", Err(Form { place: 5 })),
+            ("line ; ", Err(Form { place: 5 })),
+            ("line | ;", Err(Form { place: 5 })),
+            ("line \"a\" ;", Err(Form { place: 5 })),
+            ("line : 9 ;", Err(Form { place: 7 })),
+            ("line : : ;", Err(Form { place: 7 })),
+            ("line : edit : ;", Err(Form { place: 12 })),
+            ("a:b:c;", Err(Form { place: 3 })),
+            ("a : ; ;", Err(Form { place: 6 })),
+            ("a : \"\" ;", Err(Form { place: 5 })),
+            ("a : \"b c\" ;", Err(Form { place: 6 })),
+            ("a : \"b\nc\" ;", Err(Form { place: 6 })),
         ],
     );
 }
@@ -61,16 +48,16 @@ fn other_bytes_stand_nowhere(rt: HostRuntime) {
     all_told(
         &rt,
         &[
-            ("\0", 0),
-            ("a\0: \"b\" ;", 1),
-            ("a\t: \"b\" ;", 1),
-            ("a : \"b\" ;\r\n", 9),
-            ("a : \u{e9} ;", 4),
-            ("a : \"\u{e9}\" ;", 5),
-            ("a : \"b\t\" ;", 6),
-            ("a : \"\0\" ;", 5),
-            ("a : \"\x7f\" ;", 5),
-            ("a : \"!#~\" ;\n", OPENED),
+            ("\0", Err(Form { place: 0 })),
+            ("a\0: \"b\" ;", Err(Form { place: 1 })),
+            ("a\t: \"b\" ;", Err(Form { place: 1 })),
+            ("a : \"b\" ;\r\n", Err(Form { place: 9 })),
+            ("a : \u{e9} ;", Err(Form { place: 4 })),
+            ("a : \"\u{e9}\" ;", Err(Form { place: 5 })),
+            ("a : \"b\t\" ;", Err(Form { place: 6 })),
+            ("a : \"\0\" ;", Err(Form { place: 5 })),
+            ("a : \"\x7f\" ;", Err(Form { place: 5 })),
+            ("a : \"!#~\" ;\n", Ok(())),
         ],
     );
 }
@@ -80,17 +67,17 @@ fn an_early_end_is_told_as_the_length(rt: HostRuntime) {
     all_told(
         &rt,
         &[
-            ("line", 4),
-            ("line \n", 6),
-            ("line :", 6),
-            ("line : \n ", 9),
-            ("line : edit", 11),
-            ("line : edit  ", 13),
-            ("line : \"", 8),
-            ("line : \"mo", 10),
-            ("line : \"move\"", 13),
-            ("line : \"move\" |", 15),
-            ("a : \"b\" ; c", 11),
+            ("line", Err(Form { place: 4 })),
+            ("line \n", Err(Form { place: 6 })),
+            ("line :", Err(Form { place: 6 })),
+            ("line : \n ", Err(Form { place: 9 })),
+            ("line : edit", Err(Form { place: 11 })),
+            ("line : edit  ", Err(Form { place: 13 })),
+            ("line : \"", Err(Form { place: 8 })),
+            ("line : \"mo", Err(Form { place: 10 })),
+            ("line : \"move\"", Err(Form { place: 13 })),
+            ("line : \"move\" |", Err(Form { place: 15 })),
+            ("a : \"b\" ; c", Err(Form { place: 11 })),
         ],
     );
 }
@@ -100,18 +87,18 @@ fn names_come_behind_the_form_and_before_the_limits(rt: HostRuntime) {
     all_told(
         &rt,
         &[
-            ("a : b \"c\" ;", 4),
-            ("a : a \"c\" d e ;", 10),
-            ("a : \"b\" b ;", 8),
-            ("a : \"b\" A ;", 8),
-            ("a : b ; ?", 8),
-            ("a : ? b ;", 4),
-            ("a : b ;", 4),
-            ("", LIMITS),
-            (" \n", LIMITS),
-            ("a : ;", LIMITS),
-            ("a : b ; b : a | ;", LIMITS),
-            ("a:b|\"c\";b:a\"d\";", OPENED),
+            ("a : b \"c\" ;", Err(Form { place: 4 })),
+            ("a : a \"c\" d e ;", Err(Form { place: 10 })),
+            ("a : \"b\" b ;", Err(Form { place: 8 })),
+            ("a : \"b\" A ;", Err(Form { place: 8 })),
+            ("a : b ; ?", Err(Form { place: 8 })),
+            ("a : ? b ;", Err(Form { place: 4 })),
+            ("a : b ;", Err(Form { place: 4 })),
+            ("", Err(Limits)),
+            (" \n", Err(Limits)),
+            ("a : ;", Err(Limits)),
+            ("a : b ; b : a | ;", Err(Limits)),
+            ("a:b|\"c\";b:a\"d\";", Ok(())),
         ],
     );
 }
@@ -137,9 +124,14 @@ fn put_part(text: &mut Vec<u8>, part: &[u8], i: u8) -> Result<(), AllocError> {
 }
 
 // What is told where there are so many parts.
-fn told_with(heap: Global, pattern: Pattern<'_>, parts: u8) -> Result<usize, AllocError> {
+fn told_with(
+    heap: Global,
+    pattern: Pattern<'_>,
+    parts: u8,
+) -> Result<Result<(), Refusal>, AllocError> {
     let mut text = Vec::new(heap);
     put_part(&mut text, pattern.front.as_bytes(), 0)?;
+    // The number of a part is written into it.
     for i in 0..parts {
         put_part(&mut text, pattern.part.as_bytes(), i)?;
     }
@@ -153,17 +145,17 @@ fn most(
     heap: Global,
     pattern: Pattern<'_>,
     parts: u8,
-    past: usize,
+    past: Refusal,
 ) -> Result<(), Fail> {
     assert_eq!(rt;
         told_with(heap, pattern, parts)?,
-        OPENED,
+        Ok(()),
         "{}",
         pattern.part
     );
     assert_eq!(rt;
         told_with(heap, pattern, parts.saturating_add(1))?,
-        past,
+        Err(past),
         "{}",
         pattern.part
     );
@@ -182,7 +174,7 @@ fn limits_on_both_sides(rt: HostRuntime) -> Result<(), Fail> {
             end: ";",
         },
         63,
-        LIMITS,
+        Limits,
     )?;
     most(
         &rt,
@@ -193,7 +185,7 @@ fn limits_on_both_sides(rt: HostRuntime) -> Result<(), Fail> {
             end: "",
         },
         24,
-        LIMITS,
+        Limits,
     )?;
     most(
         &rt,
@@ -204,7 +196,7 @@ fn limits_on_both_sides(rt: HostRuntime) -> Result<(), Fail> {
             end: ";",
         },
         95,
-        LIMITS,
+        Limits,
     )?;
     most(
         &rt,
@@ -215,7 +207,7 @@ fn limits_on_both_sides(rt: HostRuntime) -> Result<(), Fail> {
             end: ";",
         },
         8,
-        LIMITS,
+        Limits,
     )?;
     most(
         &rt,
@@ -226,7 +218,7 @@ fn limits_on_both_sides(rt: HostRuntime) -> Result<(), Fail> {
             end: ";",
         },
         8,
-        LIMITS,
+        Limits,
     )?;
     most(
         &rt,
@@ -237,7 +229,7 @@ fn limits_on_both_sides(rt: HostRuntime) -> Result<(), Fail> {
             end: ":\"b\";",
         },
         24,
-        24,
+        Form { place: 24 },
     )?;
     most(
         &rt,
@@ -248,7 +240,7 @@ fn limits_on_both_sides(rt: HostRuntime) -> Result<(), Fail> {
             end: "\";",
         },
         24,
-        27,
+        Form { place: 27 },
     )
 }
 
@@ -262,7 +254,7 @@ fn form_and_names_come_before_limits(rt: HostRuntime) -> Result<(), Fail> {
     };
     assert_eq!(rt;
         told_with(heap, words, 64)?,
-        323,
+        Err(Form { place: 323 }),
         "a fault behind too many words"
     );
     let name = Pattern {
@@ -272,7 +264,7 @@ fn form_and_names_come_before_limits(rt: HostRuntime) -> Result<(), Fail> {
     };
     assert_eq!(rt;
         told_with(heap, name, 64)?,
-        322,
+        Err(Form { place: 322 }),
         "a name behind too many words"
     );
     let long = Pattern {
@@ -282,9 +274,13 @@ fn form_and_names_come_before_limits(rt: HostRuntime) -> Result<(), Fail> {
     };
     assert_eq!(rt;
         told_with(heap, long, 24)?,
-        2,
+        Err(Form { place: 2 }),
         "24 letters that head nothing"
     );
-    assert_eq!(rt; told_with(heap, long, 25)?, 26, "a 25th letter");
+    assert_eq!(rt;
+        told_with(heap, long, 25)?,
+        Err(Form { place: 26 }),
+        "a 25th letter"
+    );
     Ok(())
 }

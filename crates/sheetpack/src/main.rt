@@ -1,4 +1,5 @@
 // Packs the written rule sheet on standard input, or says where it is wrong.
+// It is printed part by part, with no Display, since spellings are bytes of a text and a sheet is of any kind; so output and sheet go together.
 #![tactic(auto)]
 
 use console::{MOST, fill};
@@ -19,11 +20,11 @@ const LONGEST: usize = 1059;
 
 // One rule: its left side, its length and its codes.
 fn print_body<S: RuleSheet>(rt: &HostRuntime, sheet: &S, rule: u16) -> io::Result<()> {
-    let left = sheet.left(rule).unwrap_or(0);
-    let length = sheet.length(rule).unwrap_or(0);
+    let (Some(left), Some(length)) = (sheet.left(rule), sheet.length(rule)) else {
+        return Ok(());
+    };
     print!(rt; "{left} {length}")?;
-    for place in 0..length {
-        let code = sheet.code(rule, place).unwrap_or(0);
+    for code in (0..length).filter_map(|place| sheet.code(rule, place)) {
         print!(rt; " {code}")?;
     }
     println!(rt; "")
@@ -31,14 +32,13 @@ fn print_body<S: RuleSheet>(rt: &HostRuntime, sheet: &S, rule: u16) -> io::Resul
 
 // The places of the bodies, each behind the one before it.
 fn print_contents<S: RuleSheet>(rt: &HostRuntime, sheet: &S) -> io::Result<()> {
-    let rules = sheet.rules();
-    let mut at = 3 + rules as u32;
-    for i in 0..rules {
-        if i > 0 {
+    let mut at = 3 + sheet.rules() as u32;
+    let lengths = (1..=sheet.rules()).filter_map(|rule| sheet.length(rule));
+    for (before, length) in lengths.enumerate() {
+        if before > 0 {
             print!(rt; " ")?;
         }
         print!(rt; "{at}")?;
-        let length = sheet.length(i + 1).unwrap_or(0);
         at = at.saturating_add(2 + length as u32);
     }
     println!(rt; "")
@@ -51,18 +51,19 @@ fn print_packed<S: RuleSheet>(rt: &HostRuntime, sheet: &S) -> io::Result<()> {
     println!(rt; "{terminals} words, {nonterminals} phrase kinds, {rules} rules")?;
     println!(rt; "{terminals} {nonterminals} {rules}")?;
     print_contents(rt, sheet)?;
-    for i in 0..rules {
-        print_body(rt, sheet, i + 1)?;
+    // A sheet is read by the numbers of its rules.
+    for rule in 1..=rules {
+        print_body(rt, sheet, rule)?;
     }
     Ok(())
 }
 
 // Each code from 1 up, with its spelling.
 fn print_spellings(rt: &HostRuntime, sheet: &WrittenSheet<'_>) -> io::Result<()> {
-    let codes = sheet.terminals().saturating_add(sheet.nonterminals());
-    for i in 0..codes {
-        let code = i + 1;
-        let spelling = sheet.spelling(code).unwrap_or(b"");
+    for code in 1..=u16::MAX {
+        let Some(spelling) = sheet.spelling(code) else {
+            break;
+        };
         print!(rt; "{code} ")?;
         rt.stdout().write_all(spelling)?;
         println!(rt; "")?;
@@ -73,13 +74,14 @@ fn print_spellings(rt: &HostRuntime, sheet: &WrittenSheet<'_>) -> io::Result<()>
 // The packed numbers are opened again, and what is printed is read from them.
 fn print_sheet(rt: &HostRuntime, sheet: &WrittenSheet<'_>) -> io::Result<()> {
     let mut numbers = [0; LONGEST];
-    let size = pack(sheet, &mut numbers).unwrap_or(0);
     let mut packed = PackedSheet::new();
-    if size > LONGEST || packed.open(&numbers[0..size]).is_err() {
-        return println!(rt; "the packing does not open");
+    match pack(sheet, &mut numbers) {
+        Some(size) if size <= LONGEST && packed.open(&numbers[..size]).is_ok() => {
+            print_packed(rt, &packed)?;
+            print_spellings(rt, sheet)
+        }
+        _ => println!(rt; "the packing does not open"),
     }
-    print_packed(rt, &packed)?;
-    print_spellings(rt, sheet)
 }
 
 fn main(rt: HostRuntime) -> io::Result<()> {
@@ -91,7 +93,7 @@ fn main(rt: HostRuntime) -> io::Result<()> {
     if have > MOST {
         return println!(rt; "too long");
     }
-    let text = &buffer[0..have];
+    let text = &buffer[..have];
     let mut sheet = WrittenSheet::new();
     match sheet.open(text) {
         Ok(()) => print_sheet(&rt, &sheet),

@@ -39,28 +39,6 @@ module _ (R : Rules) where
     seeded_none =
         record { size = length-replicate 88 false; from = λ X h. absurd (in_none 88 X h); onto = λ i h. absurd (omega arith) }
 
-    pub seeded_more : (n : ℕ) (ahead : List Bool) → Seeded n ahead → In xs n → Seeded (n + 1) (set ahead (get_or R.right n 0) true)
-    seeded_more n ahead s h =
-        record {
-          size = length-set ahead (get_or R.right n 0) true ∙ s.size;
-          from = λ X k. elim (in_split ahead (get_or R.right n 0) X k) [ inl e ↦ record { item = n; has = h; code = sym e } | inr l ↦ s.from X l ];
-          onto = λ i l k. elim (cases_eq i n) [
-            | inl e ↦ subst (λ j. In (set ahead (get_or R.right n 0) true) (get_or R.right j 0)) (sym e) (in_set ahead (get_or R.right n 0) (omega (arith, code_below n, s.size)))
-            | inr ne ↦ in_keeps ahead (get_or R.right n 0) (get_or R.right i 0) (s.onto i (omega arith) k)
-          ];
-        }
-
-    pub seeded_skip : (n : ℕ) (ahead : List Bool) → Seeded n ahead → get_or xs n false ≡ false → Seeded (n + 1) ahead
-    seeded_skip n ahead s h =
-        record {
-          size = s.size;
-          from = s.from;
-          onto = λ i l k. elim (cases_eq i n) [
-            | inl e ↦ absurd (both_ways (get_or xs n false) h (subst (λ j. In xs j) e k))
-            | inr ne ↦ s.onto i (omega arith) k
-          ];
-        }
-
     pub seeded_all : (n : ℕ) (ahead : List Bool) → 9 * R.count + 9 ≤ n → Seeded n ahead → Waiting R xs ahead
     seeded_all n ahead far s =
         record {
@@ -146,16 +124,6 @@ module _ (R : Rules) where
     pub full : more ≡ false → Full R ahead n
 
   module _ (before : List Bool) where
-    pub swept_none : length before ≡ 88 → Swept before 1 before false
-    swept_none size =
-        record {
-          size = size;
-          grown = λ xs g. g;
-          upto = omega arith;
-          fewer = λ e. absurd (both_ways false refl e);
-          full = λ _ q l h. absurd (omega arith);
-        }
-
     pub swept_more : (n : ℕ) (ahead : List Bool) (more : Bool) → 1 ≤ n → n ≤ R.count → Swept before n ahead more → In ahead (get_or R.left n 0) → get_or ahead (get_or R.right (9 * n) 0) false ≡ false → Swept before (n + 1) (set ahead (get_or R.right (9 * n) 0) true) true
     swept_more n ahead more low high s left out =
         let less = falses_set ahead (get_or R.right (9 * n) 0) (omega (arith, code_below (9 * n), s.size)) out in

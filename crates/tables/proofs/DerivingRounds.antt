@@ -1,21 +1,21 @@
 -- The marks that rounds over the rules leave are those of the codes that derive the first words.
-use Rattle.std.proofs.Common.{◌≡◌, ℕ, ◌+◌, ◌*◌, ◌<◌, ◌≤◌, Bool, true, false, List, [], ◌∷◌, ◌++◌, length, get_or, set, replicate, sym, refl, ◌∙◌, subst, inl, inr, arith}
+use Rattle.std.proofs.Common.{◌≡◌, ℕ, ◌+◌, ◌<◌, ◌≤◌, Bool, true, List, All, [], ◌∷◌, ◌++◌, length, get_or, set, sym, refl, ◌∙◌, subst, inl, inr, arith}
 use Rattle.std.specs.List.{AllByRecursion}
-use Rattle.std.proofs.ByRecursion.{All-get_or, All-from_get_or, All-append}
+use Rattle.std.proofs.ByRecursion.{All-append}
+use Rattle.std.proofs.lemmas.List.Elements.{All-from_recursion, All-head, recursion_from_All, All-weaker}
 use Rattle.std.proofs.lemmas.List.{length-set}
-use Rattle.std.proofs.lemmas.Bool.{cases_eq}
 use Rattle.grammar.specs.Grammar.{Grammar, IsTerminal, IsRule, AllTerminals, left_side, right_side}
 use Rattle.grammar.specs.Trees.{Forest, empty, leaf, node, Tree}
 use Rattle.grammar.proofs.Forests.{join, tree, terminals_of}
 use Rattle.tables.specs.declared.rules.Rules.{Rules}
-use Rattle.tables.specs.Arrays.{grammar_of}
+use Rattle.tables.specs.Arrays.{codes_at, grammar_of}
 use Rattle.tables.specs.CodeMarks.{Marked, MarksOf}
 use Rattle.tables.specs.Closing.{falses}
 use Rattle.tables.specs.DeriveWords.{DerivesWords, MarksBelow, Lacks, NoneLacks}
 use Rattle.tables.specs.NullableMarks.{NullableMarks}
 use Rattle.tables.specs.ProductiveMarks.{ProductiveMarks}
-use Rattle.tables.proofs.RuleArrays.{terminals_is, is_rule_lem, rule_high, left_is, right_length, right_code}
-use Rattle.tables.proofs.TruthLists.{in_none, in_set, in_keeps, in_split, falses_set}
+use Rattle.tables.proofs.RuleArrays.{terminals_is, is_rule_lem, rule_high, left_is, right_is}
+use Rattle.tables.proofs.TruthLists.{in_keeps, in_split, falses_set}
 
 all_front : (P : ℕ → Type 0) (ws vs : List ℕ) → AllByRecursion P (ws ++ vs) → AllByRecursion P ws
 all_front P [] vs h = tt
@@ -24,20 +24,6 @@ all_front P (w ∷ ws) vs h = (h.0, all_front P ws vs h.1)
 all_back : (P : ℕ → Type 0) (ws vs : List ℕ) → AllByRecursion P (ws ++ vs) → AllByRecursion P vs
 all_back P [] vs h = h
 all_back P (w ∷ ws) vs h = all_back P ws vs h.1
-
--- Marking the codes one by one.
-pub marks_none : MarksBelow 1 (replicate 88 false)
-marks_none = record { sound = λ X h. absurd (in_none 88 X h); whole = λ X h. absurd (omega arith) }
-
-pub marks_more : (n : ℕ) (marks : List Bool) → 1 ≤ n → n < length marks → MarksBelow n marks → MarksBelow (n + 1) (set marks n true)
-marks_more n marks low l m =
-    record {
-      sound = λ X h. elim (in_split marks n X h) [ inl e ↦ (omega arith, omega arith) | inr k ↦ let p = m.sound X k in (p.0, omega (arith, p.1)) ];
-      whole = λ X h. elim (cases_eq X n) [
-        | inl e ↦ subst (λ Y. Marked (set marks n true) Y) (sym e) (in_set marks n l)
-        | inr ne ↦ in_keeps marks n X (m.whole X (h.0, let d : (X ≡ n → ⊥) = ne in omega (arith, h.1)))
-      ];
-    }
 
 module _ (G : Grammar) (n : ℕ) where
   -- Trees side by side.
@@ -64,7 +50,7 @@ module _ (G : Grammar) (marks : List Bool) where
   -- Without a word that is at most 0, the list of words is empty.
   no_words : (ws : List ℕ) → AllTerminals G ws → AllByRecursion (λ w. w ≤ 0) ws → ws ≡ []
   no_words [] t h = refl
-  no_words (w ∷ ws) t h = absurd (omega (arith, t.0.low, h.0))
+  no_words (w ∷ ws) t h = absurd (omega (arith, (All-head (IsTerminal G) w ws t).low, h.0))
 
   pub nullable_marks : MarksOf (DerivesWords G 0) marks → NullableMarks G marks
   nullable_marks m =
@@ -73,29 +59,20 @@ module _ (G : Grammar) (marks : List Bool) where
         whole = λ X t. m.whole X (record { words = []; rules = t.0; low = tt; tree = t.1 });
       }
 
-  all_low : (ws : List ℕ) → AllTerminals G ws → AllByRecursion (λ w. w ≤ G.terminals) ws
-  all_low [] t = tt
-  all_low (w ∷ ws) t = (t.0.high, all_low ws t.1)
-
   pub productive_marks : MarksOf (DerivesWords G G.terminals) marks → ProductiveMarks G marks
   productive_marks m =
       record {
         sound = λ X h. let t = m.sound X h in (t.words, t.rules, t.tree);
-        whole = λ X t. m.whole X (record { words = t.0; rules = t.1; low = all_low t.0 (terminals_of t.2); tree = t.2 });
+        whole = λ X t. m.whole X (record { words = t.0; rules = t.1; low = recursion_from_All (λ w. w ≤ G.terminals) t.0 (All-weaker (IsTerminal G) (λ w. w ≤ G.terminals) (λ w i. i.high) t.0 (terminals_of t.2)); tree = t.2 });
       }
 
 module _ (R : Rules) where
   -- The right side of a rule, in the array and in the grammar.
-  right_all : (P : ℕ → Type 0) (r : ℕ) → IsRule (grammar_of R) r → ((d : ℕ) → d < get_or R.size r 0 → P (get_or R.right (9 * r + d) 0)) → AllByRecursion P (right_side (grammar_of R) r)
-  right_all P r i h =
-      All-from_get_or P (right_side (grammar_of R) r) 0 λ d l.
-      let k : d < get_or R.size r 0 = omega (arith, right_length R r (rule_high R r i)) in
-      subst P (right_code R r d (omega (arith, R.short r))) (h d k)
+  right_all : (P : ℕ → Type 0) (r : ℕ) → IsRule (grammar_of R) r → All P (codes_at R r) → AllByRecursion P (right_side (grammar_of R) r)
+  right_all P r i h = rw (right_is R r i) (recursion_from_All P (codes_at R r) h)
 
-  all_right : (P : ℕ → Type 0) (r : ℕ) → IsRule (grammar_of R) r → AllByRecursion P (right_side (grammar_of R) r) → (d : ℕ) → d < get_or R.size r 0 → P (get_or R.right (9 * r + d) 0)
-  all_right P r i h d l =
-      subst P (sym (right_code R r d (omega (arith, R.short r))))
-      (All-get_or P (right_side (grammar_of R) r) d 0 (omega (arith, right_length R r (rule_high R r i))) h)
+  all_right : (P : ℕ → Type 0) (r : ℕ) → IsRule (grammar_of R) r → AllByRecursion P (right_side (grammar_of R) r) → All P (codes_at R r)
+  all_right P r i h = All-from_recursion P (codes_at R r) (subst (AllByRecursion P) (right_is R r i) h)
 
   -- The marks after some rounds.
   pub record Sofar (n : ℕ) (marks : List Bool) : Type 0 where
@@ -128,7 +105,7 @@ module _ (R : Rules) where
           size = length-set marks (get_or R.left r 0) true ∙ s.size;
           keeps = λ w low high. in_keeps marks (get_or R.left r 0) w (s.keeps w low high);
           sound = λ X h. elim (in_split marks (get_or R.left r 0) X h) [
-            | inl e ↦ subst (λ Y. DerivesWords (grammar_of R) n Y) (sym (e ∙ left_is R r i)) (by_rule (grammar_of R) n r i (right_all (DerivesWords (grammar_of R) n) r i (λ d l. s.sound _ (k.right d l))))
+            | inl e ↦ subst (λ Y. DerivesWords (grammar_of R) n Y) (sym (e ∙ left_is R r i)) (by_rule (grammar_of R) n r i (right_all (DerivesWords (grammar_of R) n) r i (All-weaker (Marked marks) (DerivesWords (grammar_of R) n) s.sound (codes_at R r) k.right)))
             | inr m ↦ s.sound X m
           ];
         }

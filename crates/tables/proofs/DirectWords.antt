@@ -1,9 +1,8 @@
 -- The direct words of a state and those behind a transition.
-use Rattle.std.proofs.Common.{◌≡◌, ℕ, ◌<◌, ◌≤◌, true, false, List, get_or, sym, ◌∙◌, subst, arith}
-use mathlib.Core.Option.{some, none, none-ne-some}
+use Rattle.std.proofs.Common.{◌≡◌, ℕ, ◌<◌, ◌≤◌, false, List, get_or, sym, ◌∙◌, subst, arith, Some, None}
 use Rattle.std.proofs.lemmas.Bool.{both_ways}
+use Rattle.std.proofs.lemmas.Option.{none-some}
 use Rattle.grammar.specs.Grammar.{Grammar, IsTerminal}
-use Rattle.grammar.specs.StateLists.{state_at}
 use Rattle.grammar.specs.States.{Automaton}
 use Rattle.grammar.specs.Lookahead.{Direct, next_word, next_end}
 use Rattle.tables.specs.declared.rules.Rules.{Rules}
@@ -14,7 +13,7 @@ use Rattle.gather.specs.Members.{has, no_members}
 use Rattle.tables.specs.Transitions.{DirectIn, DirectAt, transition_at}
 use Rattle.tables.specs.WordSets.{WordsBelow, SetsOf}
 use Rattle.tables.proofs.RuleArrays.{terminals_is}
-use Rattle.tables.proofs.Gotos.{has_item, item_has, one_goto}
+use Rattle.tables.proofs.Gotos.{one_goto}
 use Rattle.tables.proofs.Transitions.{at_place, behind_place}
 use Rattle.tables.proofs.WordSets.{words_none, words_all}
 
@@ -36,32 +35,29 @@ module _ (R : Rules) (S : States) where
   direct_below s w (next_word i e) = terminal_high w i
   direct_below s w (next_end h) = omega arith
 
-  pub direct_end : (s : ℕ) → s < S.count → get_or (state_at S.sets s) 1 false ≡ true → Direct G A s 0
-  direct_end s l e = next_end (item_has R S s 0 1 l (omega arith) e)
-
-  pub no_direct_end : (s : ℕ) → get_or (state_at S.sets s) 1 false ≡ false → Direct G A s 0 → ⊥
+  pub no_direct_end : (s : ℕ) → A.has s 0 1 ≡ false → Direct G A s 0 → ⊥
   no_direct_end s e (next_word i g) = omega (arith, i.low)
-  no_direct_end s e (next_end h) = both_ways _ e (has_item R S s 0 1 h).1
+  no_direct_end s e (next_end h) = both_ways _ e h
 
-  pub no_direct_word : (s w : ℕ) → 1 ≤ w → none ≡ A.goto s w → Direct G A s w → ⊥
-  no_direct_word s w low e (next_word i g) = none-ne-some _ (e ∙ g)
+  pub no_direct_word : (s w : ℕ) → 1 ≤ w → None ≡ A.goto s w → Direct G A s w → ⊥
+  no_direct_word s w low e (next_word i g) = none-some _ (e ∙ g)
   no_direct_word s w low e (next_end h) = absurd (omega arith)
 
-  pub direct_word : (s w t : ℕ) → 1 ≤ w → w ≤ R.terminals → some t ≡ A.goto s w → Direct G A s w
+  pub direct_word : (s w t : ℕ) → 1 ≤ w → w ≤ R.terminals → Some t ≡ A.goto s w → Direct G A s w
   direct_word s w t low high e = next_word (terminal w low high) (sym e)
 
   pub behind_below : (i w : ℕ) → DirectAt R S i w → w ≤ R.terminals
   behind_below i w d = direct_below d.is_transition.to w d.direct
 
   -- The words behind a transition are those of the state behind it.
-  pub words_behind : (l : List WordSet) (i t : ℕ) → SetsOf (DirectIn R S) S.count l → some t ≡ A.goto (transition_at R i).0 (transition_at R i).1 → WordsBelow (DirectAt R S i) 64 (get_or l t no_members)
+  pub words_behind : (l : List WordSet) (i t : ℕ) → SetsOf (DirectIn R S) 96 l → Some t ≡ A.goto (transition_at R i).0 (transition_at R i).1 → WordsBelow (DirectAt R S i) 64 (get_or l t no_members)
   words_behind l i t s e =
-      let l = behind_place R S i t e in
+      let l : t < 96 = omega (arith, behind_place R S i t e, S.few) in
       record {
         sound = λ w h. record { is_transition = record { nonterminal = (at_place R S i t e).nonterminal; to = t; move = sym e }; direct = s.sound t w l h };
         whole = λ w b d. s.whole t w l (subst (λ q. Direct G A q w) (one_goto R S (transition_at R i).0 (transition_at R i).1 d.is_transition.move (sym e)) d.direct);
       }
 
-  pub words_nowhere : (x : WordSet) (i : ℕ) → ((w : ℕ) → has x w ≡ false) → none ≡ A.goto (transition_at R i).0 (transition_at R i).1 → WordsBelow (DirectAt R S i) 64 x
+  pub words_nowhere : (x : WordSet) (i : ℕ) → ((w : ℕ) → has x w ≡ false) → None ≡ A.goto (transition_at R i).0 (transition_at R i).1 → WordsBelow (DirectAt R S i) 64 x
   words_nowhere x i none_has e =
-      words_all (DirectAt R S i) 0 64 x (λ w d. absurd (none-ne-some _ (e ∙ d.is_transition.move))) (words_none (DirectAt R S i) x none_has)
+      words_all (DirectAt R S i) 0 64 x (λ w d. absurd (none-some _ (e ∙ d.is_transition.move))) (words_none (DirectAt R S i) x none_has)

@@ -1,5 +1,5 @@
 -- One turn more in a row.
-use Rattle.std.proofs.Common.{◌≡◌, ℕ, ◌+◌, ◌*◌, ◌<◌, ◌≤◌, ltb, get_or, set, Some, None, Option as Answer, sym, refl, ◌∙◌, subst, inl, inr, arith}
+use Rattle.std.proofs.Common.{◌≡◌, ℕ, ◌+◌, ◌*◌, ◌<◌, ◌≤◌, ltb, get_or, set, Some, None, sym, refl, ◌∙◌, subst, inl, inr, arith, Option}
 use Rattle.std.proofs.lemmas.List.{get_or-set_same, get_or-set_other, length-set}
 use Rattle.std.proofs.lemmas.Bool.{cases_lt, cases_eq, cases_Bool, cond-true, cond-false, ltb-true, ltb-false}
 use Rattle.grammar.specs.Cells.{rank}
@@ -22,7 +22,7 @@ module _ (R : Rules) (S : States) (s : ℕ) where
     abbrev Quiet : ℕ → Type 0
     Quiet w = (c : Action) → Has R S s w c → n ≤ turn w c → turn w c < m → ⊥
 
-    pub cell_on : (w : ℕ) → Quiet w → (o : Answer Action) → CellUpto R S s n w o → CellUpto R S s m w o
+    pub cell_on : (w : ℕ) → Quiet w → (o : Option Action) → CellUpto R S s n w o → CellUpto R S s m w o
     cell_on w q None f =
         λ c h l.
         elim (cases_lt (turn w c) n) [
@@ -42,7 +42,7 @@ module _ (R : Rules) (S : States) (s : ℕ) where
           | inr kc ↦ absurd (q c hc kc lc)
         ]
 
-    conflict_on : ((w : ℕ) → Quiet w) → (k : Answer Conflict) → ConflictUpto R S s n k → ConflictUpto R S s m k
+    conflict_on : ((w : ℕ) → Quiet w) → (k : Option Conflict) → ConflictUpto R S s n k → ConflictUpto R S s m k
     conflict_on q None f = λ w. alone_on w (q w) (f w)
     conflict_on q (Some k) f = record { first = f.first; second = f.second; order = f.order; least = f.least; lower = λ w l. alone_on w (q w) (f.lower w l) }
 
@@ -87,7 +87,7 @@ module _ (R : Rules) (S : States) (s : ℕ) where
             | inr ne ↦ other_alone v ne g
           ]
 
-      still_conflict : (k : Answer Conflict) → ConflictUpto R S s now k → ConflictUpto R S s (now + 1) k
+      still_conflict : (k : Option Conflict) → ConflictUpto R S s now k → ConflictUpto R S s (now + 1) k
       still_conflict None g = λ v. still_alone v (g v)
       still_conflict (Some k) g = record { first = g.first; second = g.second; order = g.order; least = g.least; lower = λ v l. still_alone v (g.lower v l) }
 
@@ -124,7 +124,7 @@ module _ (R : Rules) (S : States) (s : ℕ) where
         lower = λ v l. other_alone v (λ e. omega arith) (lower v l);
       }
 
-      lowest_conflict : (k : Answer Conflict) → ConflictUpto R S s now k → ConflictUpto R S s (now + 1) (lowest_of k noted)
+      lowest_conflict : (k : Option Conflict) → ConflictUpto R S s now k → ConflictUpto R S s (now + 1) (lowest_of k noted)
       lowest_conflict None g = note (g w) (λ v l. g v)
       lowest_conflict (Some k) g =
           elim (cases_Bool (ltb w k.word)) [
@@ -150,7 +150,7 @@ module _ (R : Rules) (S : States) (s : ℕ) where
         conflict = lowest_conflict row.conflict f.conflict;
       }
 
-    enter_by : (row : Row) → RowUpto R S s now row → (o : Answer Action) → get_or row.cells w None ≡ o → RowUpto R S s (now + 1) (entered_by o w r row)
+    enter_by : (row : Row) → RowUpto R S s now row → (o : Option Action) → get_or row.cells w None ≡ o → RowUpto R S s (now + 1) (entered_by o w r row)
     enter_by row f None e = enter_free row f (subst (λ o. CellUpto R S s now w o) e (f.cells w inside))
     enter_by row f (Some a) e = enter_taken a row f e
 

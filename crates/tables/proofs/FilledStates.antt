@@ -1,16 +1,15 @@
 -- The row of a state, filled with its moves and its reductions.
-use Rattle.std.proofs.Common.{◌≡◌, ℕ, zero, suc, ◌+◌, ◌*◌, ◌<◌, ◌≤◌, true, false, List, length, get_or, set, replicate, Some, None, Option as Answer, sym, ap, ◌∙◌, subst, inl, inr, add-one, arith}
-use mathlib.Core.Option.{some, none, none-ne-some}
+use Rattle.std.proofs.Common.{◌≡◌, ℕ, zero, suc, ◌+◌, ◌*◌, ◌<◌, ◌≤◌, true, false, List, [], length, get_or, set, replicate, Some, None, sym, ap, ◌∙◌, subst, inl, inr, add-one, arith, Option}
 use Rattle.std.proofs.lemmas.List.{get_or-set_same, get_or-set_other, length-set, length-replicate, get_or-replicate}
 use Rattle.std.proofs.lemmas.Bool.{cases_eq, cases_Bool, both_ways}
+use Rattle.std.proofs.lemmas.Option.{none-some}
 use Rattle.gather.specs.Members.{has}
 use Rattle.gather.specs.declared.word_set.WordSet.{WordSet}
 use Rattle.grammar.specs.Grammar.{Grammar}
-use Rattle.grammar.specs.StateLists.{state_at}
 use Rattle.grammar.specs.States.{Automaton}
 use Rattle.grammar.specs.Cells.{rank, may_shift, may_accept, may_reduce}
 use Rattle.grammar.specs.declared.action.Action.{Action}
-use Rattle.grammar.specs.declared.action.Action.TheVariants.{Shift, Accept, Reduce}
+use Rattle.grammar.specs.declared.action.Action.TheVariants.{Shift, Reduce}
 use Rattle.tables.specs.declared.row.Row.{Row}
 use Rattle.tables.specs.declared.rules.Rules.{Rules}
 use Rattle.tables.specs.declared.states.States.{States}
@@ -20,7 +19,6 @@ use Rattle.tables.specs.Rows.{reduced}
 use Rattle.tables.specs.RowMeaning.{Has, CellUpto, Alone, ConflictUpto, RowUpto}
 use Rattle.tables.proofs.RuleArrays.{is_rule_lem}
 use Rattle.tables.proofs.DirectWords.{terminal}
-use Rattle.tables.proofs.Gotos.{has_item, item_has}
 use Rattle.tables.proofs.HeldActions.{placed, same_rank, of_rank}
 use Rattle.tables.proofs.FilledRows.{cell_on, row_on, enter}
 use Rattle.tables.proofs.ReducedRows.{reduced_none, reduced_has, reduced_lacks}
@@ -35,8 +33,8 @@ module _ (R : Rules) (S : States) (s : ℕ) where
   -- No turn yet.
   pub row_first : (row : Row) → row.cells ≡ replicate 64 None → row.conflict ≡ None → RowUpto R S s 0 row
   row_first row e k = record {
-    size = ap length e ∙ length-replicate {A = Answer Action} 64 None;
-    cells = λ w l. subst (λ o. CellUpto R S s 0 w o) (sym (ap (λ (m : List (Answer Action)). get_or m w None) e ∙ get_or-replicate {A = Answer Action} 64 w None None l)) (λ c h b. omega arith);
+    size = ap length e ∙ length-replicate {A = Option Action} 64 None;
+    cells = λ w l. subst (λ o. CellUpto R S s 0 w o) (sym (ap (λ (m : List (Option Action)). get_or m w None) e ∙ get_or-replicate {A = Option Action} 64 w None None l)) (λ c h b. omega arith);
     conflict = subst (λ o. ConflictUpto R S s 0 o) (sym k) (λ w c d hc hd lc ld. absurd (omega arith));
   }
 
@@ -70,30 +68,27 @@ module _ (R : Rules) (S : States) (s : ℕ) where
       let e : v ≡ w = omega arith in
       nay c (subst (λ x. Has R S s x c) e h) (omega arith)) f
 
-  pub no_shift : (w : ℕ) → 1 ≤ w → none ≡ A.goto s w → (a : Action) → Has R S s w a → rank a ≡ 0 → ⊥
-  no_shift w low e a (may_shift i g) z = none-ne-some _ (e ∙ g)
+  pub no_shift : (w : ℕ) → 1 ≤ w → None ≡ A.goto s w → (a : Action) → Has R S s w a → rank a ≡ 0 → ⊥
+  no_shift w low e a (may_shift i g) z = none-some _ (e ∙ g)
   no_shift w low e a (may_accept h) z = absurd (omega arith)
   no_shift w low e a (may_reduce i l) z = absurd (omega (arith, i.low))
 
-  pub no_accept : get_or (state_at S.sets s) 1 false ≡ false → (a : Action) → Has R S s 0 a → rank a ≡ 0 → ⊥
+  pub no_accept : A.has s 0 1 ≡ false → (a : Action) → Has R S s 0 a → rank a ≡ 0 → ⊥
   no_accept e a (may_shift i g) z = absurd (omega (arith, i.low))
-  no_accept e a (may_accept h) z = both_ways _ e (has_item R S s 0 1 h).1
+  no_accept e a (may_accept h) z = both_ways _ e h
   no_accept e a (may_reduce i l) z = absurd (omega (arith, i.low))
 
-  pub shift : (w t : ℕ) → 1 ≤ w → w ≤ R.terminals → some t ≡ A.goto s w → Has R S s w (Shift t)
+  pub shift : (w t : ℕ) → 1 ≤ w → w ≤ R.terminals → Some t ≡ A.goto s w → Has R S s w (Shift t)
   shift w t low high e = may_shift (terminal R S w low high) (sym e)
-
-  pub accept : s < S.count → get_or (state_at S.sets s) 1 false ≡ true → Has R S s 0 Accept
-  accept l e = may_accept (item_has R S s 0 1 l (omega arith) e)
 
   -- Nothing is at the words behind the last.
   pub last_word : (r n : ℕ) (row : Row) → R.terminals + 1 ≤ n → n ≤ 64 → RowUpto R S s (64 * r + n) row → RowUpto R S s (64 * (r + 1)) row
   last_word r n row h k f =
       row_on R S s (64 * r + n) (64 * (r + 1)) (omega arith) row (λ v c x u b. omega (arith, (placed R S x).word, R.terminals63)) f
 
-  module _ (l : List (Answer WordSet)) (L : Lookaheads R S l) (low : s < S.count) (r : ℕ) (rule_low : 1 ≤ r) (rule_high : r ≤ R.count) where
-    abbrev entry : Answer WordSet
-    entry = get_or l (97 * s + r) None
+  module _ (l : List (List (Option WordSet))) (L : Lookaheads R S l) (low : s < S.count) (r : ℕ) (rule_low : 1 ≤ r) (rule_high : r ≤ R.count) where
+    abbrev entry : Option WordSet
+    entry = get_or (get_or l s []) r None
 
     may : (w : ℕ) → member entry w ≡ true → Has R S s w (Reduce r)
     may w e = may_reduce (is_rule_lem R r rule_low rule_high) (L.sound s r w (omega (arith, S.few)) (is_rule_lem R r rule_low rule_high) e)
@@ -106,7 +101,7 @@ module _ (R : Rules) (S : States) (s : ℕ) where
     row_no_rule row e f =
         row_on R S s (64 * r) (64 * (r + 1)) (omega arith) row (λ v c h u b.
         let below : v < 64 = omega (arith, (placed R S h).word, R.terminals63) in
-        may_not v (ap (λ (o : Answer WordSet). member o v) e) (subst (λ x. Has R S s v x) (of_rank R S c r rule_low (omega arith)) h)) f
+        may_not v (ap (λ (o : Option WordSet). member o v) e) (subst (λ x. Has R S s v x) (of_rank R S c r rule_low (omega arith)) h)) f
 
     -- The words of its lookahead, one after the other.
     pub row_rule : (x : WordSet) (row : Row) (n : ℕ) → n ≤ 64 → entry ≡ Some x → RowUpto R S s (64 * r) row → RowUpto R S s (64 * r + n) (reduced x r n row)
@@ -116,11 +111,11 @@ module _ (R : Rules) (S : States) (s : ℕ) where
         subst (λ m. RowUpto R S s (64 * r + m) (reduced x r m row)) (add-one n)
         (subst (λ m. RowUpto R S s m (reduced x r (n + 1) row)) (let z : (64 * r + n) + 1 ≡ 64 * r + (n + 1) = omega arith in z)
         (elim (cases_Bool (has x n)) [
-          | inl b ↦ subst (λ t. RowUpto R S s ((64 * r + n) + 1) t) (sym (reduced_has x r n row b)) (enter R S s r n rule_low (omega arith) (may n (ap (λ (o : Answer WordSet). member o n) e ∙ b)) (reduced x r n row) g)
+          | inl b ↦ subst (λ t. RowUpto R S s ((64 * r + n) + 1) t) (sym (reduced_has x r n row b)) (enter R S s r n rule_low (omega arith) (may n (ap (λ (o : Option WordSet). member o n) e ∙ b)) (reduced x r n row) g)
           | inr b ↦
               subst (λ t. RowUpto R S s ((64 * r + n) + 1) t) (sym (reduced_lacks x r n row b))
               (row_on R S s (64 * r + n) ((64 * r + n) + 1) (omega arith) (reduced x r n row) (λ v c k u w.
               let below : v < 64 = omega (arith, (placed R S k).word, R.terminals63) in
               let same : v ≡ n = omega arith in
-              may_not n (ap (λ (o : Answer WordSet). member o n) e ∙ b) (subst (λ y. Has R S s n y) (of_rank R S c r rule_low (omega arith)) (subst (λ y. Has R S s y c) same k))) g)
+              may_not n (ap (λ (o : Option WordSet). member o n) e ∙ b) (subst (λ y. Has R S s n y) (of_rank R S c r rule_low (omega arith)) (subst (λ y. Has R S s y c) same k))) g)
         ]))

@@ -7,35 +7,25 @@ use Rattle.grammar.specs.Lookahead.{Includes, Read}
 use Rattle.tables.specs.declared.grouped.Grouped.{Grouped}
 use Rattle.tables.specs.declared.rules.Rules.{Rules}
 use Rattle.tables.specs.declared.states.States.{States}
-use Rattle.tables.specs.declared.steps.Steps.{Steps}
+use Rattle.tables.specs.declared.step.Step.{Step as Listing}
 use Rattle.tables.specs.Arrays.{grammar_of, automaton}
-use Rattle.tables.specs.Groups.{FromPlaces, group_at, GroupsOf}
-use Rattle.tables.specs.IncludeSteps.{Listed, AllSteps}
+use Rattle.tables.specs.Groups.{group_at, GroupsOf}
+use Rattle.tables.specs.IncludeSteps.{sources, Listed, AllSteps}
 use Rattle.tables.specs.Transitions.{transition_at, place_of, ReadAt, FollowAt}
 use Rattle.tables.specs.WordSets.{SetsOf}
 use Rattle.tables.proofs.Gathering.{StepsOf, gathered}
-use Rattle.tables.proofs.Transitions.{within}
 
 module _ (R : Rules) (S : States) where
   -- The place of the transition at a place is the place itself.
   place_again : (i : ℕ) → place_of R (transition_at R i).0 (transition_at R i).1 ≡ i
   place_again i = omega arith
 
-  -- Steps of includes start from places.
-  pub from_places : (s : Steps) → AllSteps R S s → FromPlaces s
-  from_places s a = record {
-    few = a.few;
-    below = λ e l.
-        let i : ℕ = get_or s.sources e 0 in
-        omega (arith, (within R S (transition_at R i) (a.sound e l).from).state, S.few);
-  }
-
-  module _ (s : Steps) (g : Grouped) (a : AllSteps R S s) (b : GroupsOf s g) where
+  module _ (s : List Listing) (g : Grouped) (a : AllSteps R S s) (b : GroupsOf s g) where
     abbrev Right : ℕ → ℕ → Type 0
     Right i j = Includes (grammar_of R) (automaton R S) (transition_at R i) (transition_at R j)
 
     listed_includes : (i j : ℕ) → Listed s i j → Right i j
-    listed_includes i j l = subst (λ m. Right m j) l.source (subst (λ m. Right (get_or s.sources l.entry 0) m) l.target (a.sound l.entry l.inside))
+    listed_includes i j l = subst (λ m. Right m j) l.source (subst (λ m. Right (get_or (sources s) l.entry 0) m) l.target (a.sound l.entry l.inside))
 
     includes_listed : (i j : ℕ) → Right i j → Listed s i j
     includes_listed i j r = subst (λ m. Listed s m j) (place_again i) (subst (λ m. Listed s (place_of R (transition_at R i).0 (transition_at R i).1) m) (place_again j) (a.whole (transition_at R i) (transition_at R j) r))

@@ -1,8 +1,6 @@
 -- Steps of includes, listed in the order of states, rules and dots.
-use Rattle.std.proofs.Common.{◌≡◌, ℕ, suc, ◌+◌, ◌<◌, ◌≤◌, List, ◌∷◌, ◌++◌, length, get_or, take, drop, sym, refl, ap, ◌∙◌, subst, inl, inr, arith, take-append-drop}
-use mathlib.Core.Option.{some}
-use lib.ListN.{get_elem?}
-use Rattle.std.proofs.lemmas.List.{take_at, drop_at}
+use Rattle.std.proofs.Common.{◌≡◌, ℕ, zero, suc, ◌+◌, ◌<◌, ◌≤◌, List, [], ◌∷◌, ◌++◌, map, length, get_or, take, drop, sym, refl, ap, ◌∙◌, subst, inl, inr, arith, take-append-drop, Some, slice_get}
+use Rattle.std.proofs.lemmas.List.{take_at, drop_at, length-append}
 use Rattle.std.proofs.lemmas.Bool.{cases_lt, cases_eq}
 use Rattle.grammar.specs.Grammar.{Grammar, right_side}
 use Rattle.grammar.specs.States.{Automaton}
@@ -12,18 +10,45 @@ use Rattle.grammar.proofs.Dots.{one_target}
 use Rattle.grammar.proofs.ListParts.{get_elem_append, drop_suc, drop_at_code}
 use Rattle.tables.specs.declared.rules.Rules.{Rules}
 use Rattle.tables.specs.declared.states.States.{States}
-use Rattle.tables.specs.declared.steps.Steps.{Steps}
+use Rattle.tables.specs.declared.step.Step.{Step}
 use Rattle.tables.specs.Arrays.{grammar_of, automaton}
 use Rattle.tables.specs.Transitions.{transition_at, place_of}
-use Rattle.tables.specs.IncludeSteps.{IncludesBy, Listed, Pushed, order, StepsUpto, AllSteps}
+use Rattle.tables.specs.IncludeSteps.{sources, targets, IncludesBy, Listed, order, StepsUpto, AllSteps}
 use Rattle.tables.proofs.RuleArrays.{rule_high}
 use Rattle.tables.proofs.RuleCodes.{dot_inside}
 use Rattle.tables.proofs.Transitions.{at_place_of, within}
 use Rattle.tables.proofs.Walks.{leads_once}
 
 -- A list, parted at a code.
-split_at_code : (l : List ℕ) (d X : ℕ) → get_elem? l d ≡ some X → l ≡ take d l ++ X ∷ drop (suc d) l
+split_at_code : (l : List ℕ) (d X : ℕ) → slice_get l d ≡ Some X → l ≡ take d l ++ X ∷ drop (suc d) l
 split_at_code l d X e = sym (take-append-drop d l) ∙ ap (λ m. take d l ++ m) (drop_at_code l d X e)
+
+-- A list with one step more at its end.
+record Pushed (s : List Step) (t : Step) : Type 0 where
+  count : length (s ++ t ∷ []) ≡ length s + 1
+  source : get_or (sources (s ++ t ∷ [])) (length s) 0 ≡ t.source
+  target : get_or (targets (s ++ t ∷ [])) (length s) 0 ≡ t.target
+  sources : (e : ℕ) → e < length s → get_or (sources (s ++ t ∷ [])) e 0 ≡ get_or (sources s) e 0
+  targets : (e : ℕ) → e < length s → get_or (targets (s ++ t ∷ [])) e 0 ≡ get_or (targets s) e 0
+
+-- What is read of each step of a list, with one step more.
+read_last : (f : Step → ℕ) (s : List Step) (t : Step) → get_or (map f (s ++ t ∷ [])) (length s) 0 ≡ f t
+read_last f [] t = refl
+read_last f (x ∷ s) t = read_last f s t
+
+read_before : (f : Step → ℕ) (s : List Step) (t : Step) (e : ℕ) → e < length s → get_or (map f (s ++ t ∷ [])) e 0 ≡ get_or (map f s) e 0
+read_before f [] t e h = absurd (omega arith)
+read_before f (x ∷ s) t zero h = refl
+read_before f (x ∷ s) t (suc e) h = read_before f s t e (omega arith)
+
+pushed : (s : List Step) (t : Step) → Pushed s t
+pushed s t = record {
+  count = omega (arith, length-append s (t ∷ []));
+  source = read_last (λ x. x.source) s t;
+  target = read_last (λ x. x.target) s t;
+  sources = read_before (λ x. x.source) s t;
+  targets = read_before (λ x. x.target) s t;
+}
 
 module _ (R : Rules) (S : States) where
   abbrev G : Grammar
@@ -77,7 +102,7 @@ module _ (R : Rules) (S : States) where
         state = refl;
         is_rule = i.is_rule;
         is_left = i.is_left;
-        code = subst (λ m. get_elem? m d ≡ some X) (sym i.is_right) (get_elem_append α X β);
+        code = subst (λ m. slice_get m d ≡ Some X) (sym i.is_right) (get_elem_append α X β);
         nullables = subst (λ m. AllNullable G m) (sym (drop_suc d l rest)) i.nullables;
         leads = subst (λ m. Leads A y.0 m x.0) (sym front) i.leads;
       }
@@ -92,7 +117,7 @@ module _ (R : Rules) (S : States) where
       (ap (λ a. place_of R a x.1) p ∙ ap (λ a. place_of R u.0 a) X, ap (λ a. place_of R a y.1) s ∙ ap (λ a. place_of R v.0 a) Y)
 
   -- Where no step is in between.
-  pub jump : (n m : ℕ) (s : Steps) → n ≤ m → ((q r d : ℕ) (x y : ℕ × ℕ) → IncludesBy G A q r d x y → n ≤ order q r d → order q r d < m → ⊥) → StepsUpto R S n s → StepsUpto R S m s
+  pub jump : (n m : ℕ) (s : List Step) → n ≤ m → ((q r d : ℕ) (x y : ℕ × ℕ) → IncludesBy G A q r d x y → n ≤ order q r d → order q r d < m → ⊥) → StepsUpto R S n s → StepsUpto R S m s
   jump n m s h none f = record {
     room = omega (arith, f.room);
     sound = f.sound;
@@ -107,7 +132,13 @@ module _ (R : Rules) (S : States) where
   at_transition x t = let w = within R S x t in at_place_of R x.0 x.1 w.low w.high
 
   -- One step more.
-  module _ (q r d : ℕ) (x y : ℕ × ℕ) (b : IncludesBy G A q r d x y) (s s' : Steps) (p : Pushed s s' (place_of R x.0 x.1) (place_of R y.0 y.1)) (f : StepsUpto R S (order q r d) s) where
+  module _ (q r d : ℕ) (x y : ℕ × ℕ) (b : IncludesBy G A q r d x y) (s new : List Step) (t : Step) (added : new ≡ s ++ t ∷ []) (is_source : t.source ≡ place_of R x.0 x.1) (is_target : t.target ≡ place_of R y.0 y.1) (f : StepsUpto R S (order q r d) s) where
+    abbrev s' : List Step
+    s' = s ++ t ∷ []
+
+    p : Pushed s t
+    p = pushed s t
+
     still : (i j : ℕ) → Listed s i j → Listed s' i j
     still i j l = record {
       entry = l.entry;
@@ -117,24 +148,24 @@ module _ (R : Rules) (S : States) where
     }
 
     newest : Listed s' (place_of R x.0 x.1) (place_of R y.0 y.1)
-    newest = record { entry = s.count; inside = omega (arith, p.count); source = p.source; target = p.target }
+    newest = record { entry = length s; inside = omega (arith, p.count); source = p.source ∙ is_source; target = p.target ∙ is_target }
 
     abbrev Right : ℕ → ℕ → Type 0
     Right i j = Includes G A (transition_at R i) (transition_at R j)
 
-    right : (e : ℕ) → e < s'.count → Right (get_or s'.sources e 0) (get_or s'.targets e 0)
+    right : (e : ℕ) → e < (length s') → Right (get_or (sources s') e 0) (get_or (targets s') e 0)
     right e l =
-        elim (cases_eq e s.count) [
+        elim (cases_eq e (length s)) [
           | inl k ↦
-              subst (λ c. Right (get_or s'.sources c 0) (get_or s'.targets c 0)) (sym k)
-              (subst (λ i. Right i (get_or s'.targets s.count 0)) (sym p.source)
-              (subst (λ j. Right (place_of R x.0 x.1) j) (sym p.target)
+              subst (λ c. Right (get_or (sources s') c 0) (get_or (targets s') c 0)) (sym k)
+              (subst (λ i. Right i (get_or (targets s') (length s) 0)) (sym (p.source ∙ is_source))
+              (subst (λ j. Right (place_of R x.0 x.1) j) (sym (p.target ∙ is_target))
               (subst (λ u. Includes G A u (transition_at R (place_of R y.0 y.1))) (sym (at_transition x b.from))
               (subst (λ v. Includes G A x v) (sym (at_transition y b.to)) (by_includes q r d x y b)))))
           | inr k ↦
-              (let h : e < s.count = omega (arith, p.count, k) in
-              subst (λ i. Right i (get_or s'.targets e 0)) (sym (p.sources e h))
-              (subst (λ j. Right (get_or s.sources e 0) j) (sym (p.targets e h)) (f.sound e h)))
+              (let h : e < length s = omega (arith, p.count, k) in
+              subst (λ i. Right i (get_or (targets s') e 0)) (sym (p.sources e h))
+              (subst (λ j. Right (get_or (sources s) e 0) j) (sym (p.targets e h)) (f.sound e h)))
         ]
 
     here : (q' r' d' : ℕ) (u v : ℕ × ℕ) → IncludesBy G A q' r' d' u v → q' ≡ q → r' ≡ r → d' ≡ d → Listed s' (place_of R u.0 u.1) (place_of R v.0 v.1)
@@ -143,8 +174,8 @@ module _ (R : Rules) (S : States) where
         let e = by_once q r d x y u v b c' in
         subst (λ i. Listed s' i (place_of R v.0 v.1)) e.0 (subst (λ j. Listed s' (place_of R x.0 x.1) j) e.1 newest)
 
-    pub push : StepsUpto R S (order q r (d + 1)) s'
-    push = record {
+    one_more : StepsUpto R S (order q r (d + 1)) s'
+    one_more = record {
       room = omega (arith, f.room, p.count);
       sound = right;
       whole = λ q' r' d' u v c l.
@@ -156,15 +187,18 @@ module _ (R : Rules) (S : States) where
           ];
     }
 
+    pub push : StepsUpto R S (order q r (d + 1)) new
+    push = subst (λ l. StepsUpto R S (order q r (d + 1)) l) (sym added) one_more
+
   -- The list is empty at first, and complete at the end.
-  pub no_steps : (s : Steps) → s.count ≡ 0 → StepsUpto R S (order 0 1 0) s
+  pub no_steps : (s : List Step) → length s ≡ 0 → StepsUpto R S (order 0 1 0) s
   no_steps s z = record {
     room = omega arith;
     sound = λ e l. absurd (omega arith);
     whole = λ q r d x y b l. absurd (omega (arith, (bounds q r d x y b).low));
   }
 
-  pub all_steps : (s : Steps) → StepsUpto R S (order S.count 1 0) s → AllSteps R S s
+  pub all_steps : (s : List Step) → StepsUpto R S (order S.count 1 0) s → AllSteps R S s
   all_steps s f = record {
     few = omega (arith, f.room, S.few);
     sound = f.sound;

@@ -1,3 +1,4 @@
+pub mod Replicas
 pub mod RuleArrays
 pub mod DerivingRounds
 pub mod UsedBy
@@ -16,6 +17,7 @@ pub mod Transitions
 pub mod WordSets
 pub mod DirectWords
 pub mod Gathering
+pub mod Filtered
 pub mod ReadSteps
 pub mod ReadSets
 pub mod Walks
@@ -24,6 +26,7 @@ pub mod NullableEnds
 pub mod RuleWalks
 pub mod IncludeSteps
 pub mod RuleSteps
+pub mod StepLists
 pub mod Counting
 pub mod Spots
 pub mod GroupLoops

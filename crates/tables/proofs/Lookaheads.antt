@@ -1,8 +1,8 @@
 -- Follow sets, added up where the right sides end, are lookaheads.
-use Rattle.std.proofs.Common.{◌≡◌, ℕ, ◌+◌, ◌*◌, ◌<◌, ◌≤◌, true, ◌||◌, List, get_or, set, replicate, None, Option as Answer, sym, ap, ◌∙◌, subst, inl, inr, arith}
-use mathlib.Core.Option.{some, none, none-ne-some}
+use Rattle.std.proofs.Common.{◌≡◌, ℕ, ◌+◌, ◌*◌, ◌<◌, ◌≤◌, true, ◌||◌, ◌⊎◌, List, [], length, get_or, set, replicate, is_some, None, sym, ap, ◌∙◌, subst, inl, inr, arith, Option, Some}
 use Rattle.std.proofs.lemmas.List.{get_or-set_same, get_or-set_other, length-set, length-replicate, get_or-replicate}
 use Rattle.std.proofs.lemmas.Bool.{cases_lt, cases_eq, or_cases, or_left, or_right, false≢true}
+use Rattle.std.proofs.lemmas.Option.{none-some}
 use Rattle.gather.specs.Members.{has, no_members}
 use Rattle.gather.specs.declared.word_set.WordSet.{WordSet}
 use Rattle.grammar.specs.Grammar.{Grammar, IsRule, left_side, right_side}
@@ -17,6 +17,9 @@ use Rattle.tables.specs.Transitions.{transition_at, place_of, FollowAt}
 use Rattle.tables.specs.WordSets.{SetsOf}
 use Rattle.tables.proofs.RuleArrays.{is_rule_lem, rule_high, left_is}
 use Rattle.tables.proofs.Transitions.{within, at_place_of, inside}
+use Rattle.tables.proofs.Answered.{told_some}
+use Rattle.tables.proofs.Gotos.{goto_moves}
+use Rattle.tables.proofs.RuleWalks.{walk_inside}
 use Rattle.tables.proofs.Walks.{leads_once}
 
 module _ (R : Rules) (S : States) where
@@ -29,20 +32,29 @@ module _ (R : Rules) (S : States) where
   rule_top : (r : ℕ) → IsRule G r → r ≤ 96
   rule_top r i = omega (arith, rule_high R r i, R.count96)
 
-  nothing_yet : (i w : ℕ) → i < 9312 → member (get_or (replicate 9312 None) i None) w ≡ true → ⊥
-  nothing_yet i w h e = false≢true (sym (ap (λ (o : Answer WordSet). member o w) (get_or-replicate 9312 i None None h)) ∙ e)
+  abbrev nothing : List (List (Option WordSet))
+  nothing = replicate 96 (replicate 97 None)
 
-  pub upto_none : LookaheadsUpto R S 1 (replicate 9312 None)
+  nothing_at : (s : ℕ) → s < 96 → get_or nothing s [] ≡ replicate 97 None
+  nothing_at s h = get_or-replicate 96 s (replicate 97 None) [] h
+
+  nothing_yet : (s r w : ℕ) → s < 96 → r ≤ 96 → lookahead_at nothing s r w ≡ true → ⊥
+  nothing_yet s r w h k e =
+      false≢true (sym (ap (λ (m : List (Option WordSet)). member (get_or m r None) w) (nothing_at s h) ∙ ap (λ (o : Option WordSet). member o w) (get_or-replicate 97 r None None (omega arith))) ∙ e)
+
+  pub upto_none : LookaheadsUpto R S 1 nothing
   upto_none = record {
-    size = length-replicate {A = Answer WordSet} 9312 None;
-    sound = λ s r w h i e. absurd (nothing_yet (97 * s + r) w (omega (arith, rule_top r i)) e);
+    states = length-replicate {A = List (Option WordSet)} 96 (replicate 97 None);
+    rules = λ s h. ap length (nothing_at s h) ∙ length-replicate {A = Option WordSet} 97 None;
+    sound = λ s r w h i e. absurd (nothing_yet s r w h (rule_top r i) e);
     whole = λ p r s w h i. absurd (omega (arith, i.low));
   }
 
   -- Where a state and a rule are left out, as they have nothing to add.
-  pub upto_skip : (n m : ℕ) (l : List (Answer WordSet)) → n ≤ m → ((p r s w : ℕ) → n ≤ 97 * p + r → 97 * p + r < m → IsRule G r → Leads A p (right_side G r) s → Follow G A (p, left_side G r) w → ⊥) → LookaheadsUpto R S n l → LookaheadsUpto R S m l
+  pub upto_skip : (n m : ℕ) (l : List (List (Option WordSet))) → n ≤ m → ((p r s w : ℕ) → n ≤ 97 * p + r → 97 * p + r < m → IsRule G r → Leads A p (right_side G r) s → Follow G A (p, left_side G r) w → ⊥) → LookaheadsUpto R S n l → LookaheadsUpto R S m l
   upto_skip n m l h nay u = record {
-    size = u.size;
+    states = u.states;
+    rules = u.rules;
     sound = u.sound;
     whole = λ p r s w k i a f.
         elim (cases_lt (97 * p + r) n) [
@@ -52,7 +64,7 @@ module _ (R : Rules) (S : States) where
   }
 
   -- What is complete.
-  pub upto_all : (l : List (Answer WordSet)) → LookaheadsUpto R S (97 * S.count + 1) l → Lookaheads R S l
+  pub upto_all : (l : List (List (Option WordSet))) → LookaheadsUpto R S (97 * S.count + 1) l → Lookaheads R S l
   upto_all l u = record {
     sound = u.sound;
     whole = λ s r w i a.
@@ -61,12 +73,16 @@ module _ (R : Rules) (S : States) where
   }
 
   -- No rules behind the last.
-  pub last_rule : (q n : ℕ) (l : List (Answer WordSet)) → R.count + 1 ≤ n → n ≤ R.count + 1 → LookaheadsUpto R S (97 * q + n) l → LookaheadsUpto R S (97 * (q + 1) + 1) l
+  pub last_rule : (q n : ℕ) (l : List (List (Option WordSet))) → R.count + 1 ≤ n → n ≤ R.count + 1 → LookaheadsUpto R S (97 * q + n) l → LookaheadsUpto R S (97 * (q + 1) + 1) l
   last_rule q n l h k u =
       upto_skip (97 * q + n) (97 * (q + 1) + 1) l (omega (arith, R.count96)) (λ p r s w a b i t f.
       omega (arith, i.low, rule_high R r i, R.count96)) u
 
-  module _ (q r : ℕ) (low : 1 ≤ r) (high : r ≤ R.count) (l : List (Answer WordSet)) (u : LookaheadsUpto R S (97 * q + r) l) where
+  -- A walk from a state that moves ends in a state.
+  pub end_below : (q r s X : ℕ) (o : Option ℕ) → o ≡ A.goto q X → true ≡ is_some o → Leads A q (right_side G r) s → s < 96
+  end_below q r s X o e h w = let t = told_some o (A.goto q X) e h in omega (arith, walk_inside R S (right_side G r) w (goto_moves R S q X t.0 (sym t.1)).from, S.few)
+
+  module _ (q r : ℕ) (low : 1 ≤ r) (high : r ≤ R.count) (l : List (List (Option WordSet))) (u : LookaheadsUpto R S (97 * q + r) l) where
     abbrev left : ℕ
     left = get_or R.left r 0
 
@@ -90,8 +106,8 @@ module _ (R : Rules) (S : States) where
         (subst (λ m. Follow G A (q, left_side G m) w) er (subst (λ m. Follow G A (m, left_side G r') w) ep f))) u
 
     -- The state does not move by the left side.
-    pub no_move : none ≡ A.goto q left → LookaheadsUpto R S (97 * q + (r + 1)) l
-    no_move e = skip_this (λ s w a f. none-ne-some _ (e ∙ subst (λ X. A.goto q X ≡ some (follow_transition f).to) (sym (left_is R r this)) (follow_transition f).move))
+    pub no_move : None ≡ A.goto q left → LookaheadsUpto R S (97 * q + (r + 1)) l
+    no_move e = skip_this (λ s w a f. none-some _ (e ∙ subst (λ X. A.goto q X ≡ Some (follow_transition f).to) (sym (left_is R r this)) (follow_transition f).move))
 
     -- The right side leads nowhere.
     pub no_walk : ((s : ℕ) → Leads A q codes s → ⊥) → LookaheadsUpto R S (97 * q + (r + 1)) l
@@ -111,43 +127,73 @@ module _ (R : Rules) (S : States) where
       follows_here : (w : ℕ) → Follow G A (q, left_side G r) w → has here w ≡ true
       follows_here w f = F.whole (place_of R q left) w (inside R S (q, left) t) (subst (λ x. Follow G A x w) (sym at_left) f)
 
-      module _ (s : ℕ) (a : Leads A q codes s) (below : s < 96) (y : Answer WordSet) (e : (w : ℕ) → member y w ≡ (member (get_or l (97 * s + r) None) w || has here w)) where
-        abbrev new : List (Answer WordSet)
-        new = set l (97 * s + r) y
+      module _ (s : ℕ) (a : Leads A q codes s) (below : s < 96) (y : Option WordSet) (e : (w : ℕ) → member y w ≡ (lookahead_at l s r w || has here w)) where
+        abbrev row : List (Option WordSet)
+        row = get_or l s []
 
-        changed : get_or new (97 * s + r) None ≡ y
-        changed = get_or-set_same l (97 * s + r) y None (omega (arith, u.size, top))
+        abbrev new : List (List (Option WordSet))
+        new = set l s (set row r y)
+
+        row_new : get_or new s [] ≡ set row r y
+        row_new = get_or-set_same l s (set row r y) [] (omega (arith, u.states))
+
+        changed : (w : ℕ) → lookahead_at new s r w ≡ member y w
+        changed w =
+            ap (λ (m : List (Option WordSet)). member (get_or m r None) w) row_new
+            ∙ ap (λ (o : Option WordSet). member o w) (get_or-set_same row r y None (omega (arith, u.rules s below, top)))
+
+        -- This place, or another one.
+        this_place : (s' r' : ℕ) → ((s' ≡ s) × (r' ≡ r)) ⊎ (s' ≡ s → r' ≡ r → ⊥)
+        this_place s' r' =
+            elim (cases_eq s' s) [
+              | inl e ↦ elim (cases_eq r' r) [ inl f ↦ inl (e, f) | inr f ↦ inr (λ a b. f b) ]
+              | inr e ↦ inr (λ a b. e a)
+            ]
+
+        kept : (s' r' w : ℕ) → (s' ≡ s → r' ≡ r → ⊥) → lookahead_at new s' r' w ≡ lookahead_at l s' r' w
+        kept s' r' w apart =
+            elim (cases_eq s' s) [
+              | inl e ↦
+                  subst (λ t. lookahead_at new t r' w ≡ lookahead_at l t r' w) (sym e)
+                  (ap (λ (m : List (Option WordSet)). member (get_or m r' None) w) row_new
+                  ∙ ap (λ (o : Option WordSet). member o w) (get_or-set_other row r r' y None (apart e)))
+              | inr e ↦ ap (λ (m : List (Option WordSet)). member (get_or m r' None) w) (get_or-set_other l s s' (set row r y) [] e)
+            ]
 
         -- The old words are still there.
         still : (s' r' w : ℕ) → lookahead_at l s' r' w ≡ true → lookahead_at new s' r' w ≡ true
         still s' r' w h =
-            elim (cases_eq (97 * s' + r') (97 * s + r)) [
+            elim (this_place s' r') [
               | inl k ↦
-                  subst (λ i. member (get_or new i None) w ≡ true) (sym k)
-                  (ap (λ (o : Answer WordSet). member o w) changed ∙ e w ∙ or_left _ (has here w) (subst (λ i. member (get_or l i None) w ≡ true) k h))
-              | inr k ↦ ap (λ (o : Answer WordSet). member o w) (get_or-set_other l (97 * s + r) (97 * s' + r') y None k) ∙ h
+                  subst (λ t. lookahead_at new t r' w ≡ true) (sym k.0) (subst (λ t. lookahead_at new s t w ≡ true) (sym k.1)
+                  (changed w ∙ e w ∙ or_left _ (has here w) (subst (λ t. lookahead_at l s t w ≡ true) k.1 (subst (λ t. lookahead_at l t r' w ≡ true) k.0 h))))
+              | inr k ↦ kept s' r' w k ∙ h
             ]
 
         right : (s' r' w : ℕ) → s' < 96 → IsRule G r' → lookahead_at new s' r' w ≡ true → Lookahead G A s' r' w
         right s' r' w b i h =
-            let t' = rule_top r' i in
-            let t'' = top in
-            elim (cases_eq (97 * s' + r') (97 * s + r)) [
+            elim (this_place s' r') [
               | inl k ↦
-                  (let es : s' ≡ s = omega arith in
-                  let er : r' ≡ r = omega arith in
-                  let m : member y w ≡ true = sym (ap (λ (o : Answer WordSet). member o w) changed) ∙ subst (λ j. member (get_or new j None) w ≡ true) k h in
-                  subst (λ j. Lookahead G A j r' w) (sym es) (subst (λ j. Lookahead G A s j w) (sym er)
-                  (elim (or_cases (member (get_or l (97 * s + r) None) w) (has here w) (sym (e w) ∙ m)) [
+                  (let h' : lookahead_at new s r w ≡ true = subst (λ t. lookahead_at new s t w ≡ true) k.1 (subst (λ t. lookahead_at new t r' w ≡ true) k.0 h) in
+                  subst (λ j. Lookahead G A j r' w) (sym k.0) (subst (λ j. Lookahead G A s j w) (sym k.1)
+                  (elim (or_cases (lookahead_at l s r w) (has here w) (sym (changed w ∙ e w) ∙ h')) [
                     | inl old ↦ u.sound s r w below this old
                     | inr add ↦ record { back = q; leads = a; follow = here_follows w add }
                   ])))
-              | inr k ↦ u.sound s' r' w b i (sym (ap (λ (o : Answer WordSet). member o w) (get_or-set_other l (97 * s + r) (97 * s' + r') y None k)) ∙ h)
+              | inr k ↦ u.sound s' r' w b i (sym (kept s' r' w k) ∙ h)
+            ]
+
+        rows_long : (t : ℕ) → t < 96 → length (get_or new t []) ≡ 97
+        rows_long t h =
+            elim (cases_eq t s) [
+              | inl k ↦ ap (λ m. length (get_or new m [])) k ∙ ap length row_new ∙ length-set row r y ∙ u.rules s below
+              | inr k ↦ ap length (get_or-set_other l s t (set row r y) [] k) ∙ u.rules t h
             ]
 
         pub add : LookaheadsUpto R S (97 * q + (r + 1)) new
         add = record {
-          size = length-set l (97 * s + r) y ∙ u.size;
+          states = length-set l s (set row r y) ∙ u.states;
+          rules = rows_long;
           sound = right;
           whole = λ p r' s' w b i v f.
               elim (cases_lt (97 * p + r') (97 * q + r)) [
@@ -161,6 +207,6 @@ module _ (R : Rules) (S : States) where
                     let f' : Follow G A (q, left_side G r) w = subst (λ m. Follow G A (q, left_side G m) w) er (subst (λ m. Follow G A (m, left_side G r') w) ep f) in
                     let es : s ≡ s' = leads_once a v' in
                     subst (λ j. lookahead_at new j r' w ≡ true) es (subst (λ j. lookahead_at new s j w ≡ true) (sym er)
-                    (ap (λ (o : Answer WordSet). member o w) changed ∙ e w ∙ or_right _ (has here w) (follows_here w f'))))
+                    (changed w ∙ e w ∙ or_right _ (has here w) (follows_here w f'))))
               ];
         }

@@ -1,5 +1,7 @@
 -- From which dot on a right side is nullable.
-use Rattle.std.proofs.Common.{◌≡◌, ℕ, suc, ◌+◌, ◌-◌, ◌*◌, ◌<◌, ◌≤◌, Bool, true, false, List, get_or, drop, subst, inl, inr, arith}
+use Rattle.std.proofs.Common.{◌≡◌, ℕ, zero, suc, ◌+◌, ◌<◌, ◌≤◌, Bool, true, false, List, length, get_or, drop, sym, subst, Some, inl, inr, arith}
+use Rattle.std.specs.List.{slice_get}
+use Rattle.std.proofs.lemmas.Option.{slice_get-get_or}
 use Rattle.std.proofs.lemmas.Bool.{both_ways, cases_lt}
 use Rattle.grammar.specs.Grammar.{Grammar, right_side}
 use Rattle.grammar.specs.Trees.{AllNullable}
@@ -7,35 +9,46 @@ use Rattle.tables.specs.declared.rules.Rules.{Rules}
 use Rattle.tables.specs.Arrays.{grammar_of}
 use Rattle.tables.specs.IncludeSteps.{NullableFrom}
 use Rattle.tables.specs.NullableMarks.{NullableMarks}
-use Rattle.tables.proofs.RuleArrays.{right_length}
-use Rattle.tables.proofs.RuleCodes.{code_there, nullable_end, nullable_more, nullable_first, nullable_later}
+use Rattle.tables.proofs.RuleCodes.{nullable_end, nullable_more, nullable_first, nullable_later}
 
-module _ (R : Rules) (null : List Bool) (N : NullableMarks (grammar_of R) null) (r : ℕ) (h : r ≤ R.count) where
+module _ (R : Rules) (null : List Bool) (N : NullableMarks (grammar_of R) null) (r : ℕ) where
   abbrev G : Grammar
   G = grammar_of R
 
-  abbrev Rest : ℕ → Type 0
-  Rest d = AllNullable G (drop d (right_side G r))
+  -- The codes of the rule's right side, as the code reads them.
+  module _ (codes : List ℕ) (same : codes ≡ right_side G r) where
+    abbrev Rest : ℕ → Type 0
+    Rest d = AllNullable G (drop d codes)
 
-  abbrev marked : ℕ → Bool
-  marked d = get_or null (get_or R.right (9 * r + d) 0) false
+    abbrev marked : ℕ → Bool
+    marked d = get_or null (get_or codes d 0) false
 
-  pub rest_end : Rest (get_or R.size r 0)
-  rest_end = nullable_end G (right_side G r) (get_or R.size r 0) (omega (arith, right_length R r h))
+    code_there : (d : ℕ) → d < length codes → slice_get codes d ≡ Some (get_or codes d 0)
+    code_there d k = slice_get-get_or codes d 0 k
 
-  pub rest_more : (d : ℕ) → 0 < d → d ≤ get_or R.size r 0 → marked (d - 1) ≡ true → Rest d → Rest (d - 1)
-  rest_more d l k m a =
-      nullable_more G (right_side G r) (d - 1) _ (code_there R r (d - 1) h (omega arith)) (N.sound _ m) (subst Rest (let e : d ≡ suc (d - 1) = omega arith in e) a)
+    -- Nullable from a dot on, if all codes behind it are.
+    rest_from : (n d : ℕ) → length codes ≤ d + n → ((k : ℕ) → d ≤ k → k < length codes → marked k ≡ true) → Rest d
+    rest_from zero d h m = nullable_end G codes d (omega arith)
+    rest_from (suc n) d h m =
+        elim (cases_lt d (length codes)) [
+          | inl l ↦ nullable_more G codes d _ (code_there d l) (N.sound _ (m d (omega arith) l)) (rest_from n (suc d) (omega arith) (λ k a b. m k (omega arith) b))
+          | inr l ↦ nullable_end G codes d l
+        ]
 
-  pub from_marked : Rest 0 → NullableFrom G r 0
-  from_marked a = record { sound = λ d k. nullable_later G (right_side G r) 0 d k a; whole = λ d k. omega arith }
+    -- Where every code is marked.
+    pub from_all : ((k : ℕ) → k < length codes → marked k ≡ true) → NullableFrom G r 0
+    from_all m = record {
+      sound = λ d h. subst (λ l. AllNullable G (drop d l)) same (rest_from (length codes) d (omega arith) (λ k a b. m k b));
+      whole = λ d a. omega arith;
+    }
 
-  pub from_unmarked : (d : ℕ) → 0 < d → d ≤ get_or R.size r 0 → marked (d - 1) ≡ false → Rest d → NullableFrom G r ((d - 1) + 1)
-  from_unmarked d l k m a = record {
-    sound = λ e b. nullable_later G (right_side G r) d e (omega arith) a;
-    whole = λ e b.
-        elim (cases_lt (d - 1) e) [
-          | inl lt ↦ omega arith
-          | inr ge ↦ absurd (both_ways (marked (d - 1)) m (N.whole _ (nullable_first G (right_side G r) (d - 1) _ (code_there R r (d - 1) h (omega arith)) (nullable_later G (right_side G r) e (d - 1) ge b))))
-        ];
-  }
+    -- Where one code is not marked, and all behind it are.
+    pub from_last : (i : ℕ) → i < length codes → marked i ≡ false → ((k : ℕ) → i + 1 ≤ k → k < length codes → marked k ≡ true) → NullableFrom G r (i + 1)
+    from_last i l u m = record {
+      sound = λ d h. subst (λ l. AllNullable G (drop d l)) same (rest_from (length codes) d (omega arith) (λ k a b. m k (omega arith) b));
+      whole = λ d a.
+          elim (cases_lt i d) [
+            | inl lt ↦ omega arith
+            | inr ge ↦ absurd (both_ways (marked i) u (N.whole _ (nullable_first G codes i _ (code_there i l) (nullable_later G codes d i ge (subst (λ l. AllNullable G (drop d l)) (sym same) a)))))
+          ];
+    }

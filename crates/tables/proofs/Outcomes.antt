@@ -1,5 +1,5 @@
 -- What the stages found, as outcomes of building.
-use Rattle.std.proofs.Common.{◌≡◌, ℕ, List, Some, Ok, Option as Answer, ap, subst, inl, inr}
+use Rattle.std.proofs.Common.{◌≡◌, ℕ, List, Some, Ok, ap, subst, inl, inr, Option}
 use mathlib.Core.Logic.{∥∥₁_map}
 use Rattle.grammar.specs.Grammar.{Grammar}
 use Rattle.grammar.specs.Useful.{Useless}
@@ -50,10 +50,10 @@ module _ (R : Rules) (S : States) (n : UsefulNumbering R S) where
   conflict_told NoAction c = absurd c
   conflict_told FullBook c = absurd c
 
-  pub exact_tables : (cells : List (List (Answer Action))) → Exact (grammar_of R) (automaton R S) (cell_at cells) → Exactly R S cells
+  pub exact_tables : (cells : List (List (Option Action))) → Exact (grammar_of R) (automaton R S) (cell_at cells) → Exactly R S cells
   exact_tables cells e = record { outcome = done (within_rules R) (sound_rules R n.useful) S.few n.numbered e; useful = n.useful }
 
 -- Tables that hold a grammar are what building it comes to.
-pub built_tables : (G : Grammar) (f : Full) → grammar_of f.rules ≡ G → BuiltFrom G (Ok tt) (held_by (Some f))
+pub built_tables : (G : Grammar) (f : Full) → grammar_of f.machine.rules ≡ G → BuiltFrom G (Ok tt) (held_by (Some f))
 built_tables G f e =
-    ∥∥₁_map f.exact (λ x. (f.states.count, automaton f.rules f.states, cell_at f.cells, ap (λ G. holding G f.states.count (automaton f.rules f.states) (cell_at f.cells)) e, subst (λ G. Outcome G (built f.states.count (automaton f.rules f.states) (cell_at f.cells))) e x.outcome))
+    ∥∥₁_map f.exact (λ x. (f.machine.states.count, automaton f.machine.rules f.machine.states, cell_at f.cells, ap (λ G. holding G f.machine.states.count (automaton f.machine.rules f.machine.states) (cell_at f.cells)) e, subst (λ G. Outcome G (built f.machine.states.count (automaton f.machine.rules f.machine.states) (cell_at f.cells))) e x.outcome))

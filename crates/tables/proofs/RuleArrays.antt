@@ -1,27 +1,14 @@
 -- The grammar that rules in arrays stand for: its rules are those of the arrays, within the limits and with all codes in range.
-use Rattle.std.proofs.Common.{◌≡◌, ℕ, zero, suc, ◌+◌, ◌*◌, ◌<◌, ◌≤◌, ◌⊎◌, List, [], ◌∷◌, length, get_or, take, drop, sym, refl, ap, ◌∙◌, inl, inr, add-zero, arith, length-drop, length-take}
+use Rattle.std.proofs.Common.{◌≡◌, ℕ, zero, suc, ◌+◌, ◌*◌, ◌<◌, ◌≤◌, All, [], ◌∷◌, length, get_or, drop, sym, refl, ap, ◌∙◌, inl, inr, add-zero, arith, length-drop, length-take}
 use Rattle.std.proofs.lemmas.List.{get_or_past, get_or-take, get_or-drop}
+use Rattle.std.proofs.lemmas.List.Elements.{All-take, All-drop, All-from_get_or}
 use Rattle.std.proofs.lemmas.Bool.{cases_lt}
-use Rattle.grammar.specs.Grammar.{Grammar, IsTerminal, IsNonterminal, IsRule, AllCodes, Valid, start, no_rule, left_side, right_side}
+use Rattle.grammar.specs.Grammar.{IsRule, AllCodes, Valid, start, no_rule, left_side, right_side}
 use Rattle.grammar.specs.Outcome.{Within, InRange}
 use Rattle.grammar.specs.ItemLists.{Laid}
-use Rattle.grammar.proofs.Codes.{valid}
+use Rattle.grammar.proofs.Codes.{valid, each_code}
 use Rattle.tables.specs.declared.rules.Rules.{Rules}
-use Rattle.tables.specs.Arrays.{rule_at, rules_from, grammar_of}
-
--- Numbers from 1 to T + N are codes.
-pub each_code : (G : Grammar) (l : List ℕ) → ((d : ℕ) → d < length l → (1 ≤ get_or l d 0) × (get_or l d 0 ≤ G.terminals + G.nonterminals)) → AllCodes G l
-each_code G [] h = tt
-each_code G (x ∷ l) h =
-    (here, each_code G l (λ d k. h (suc d) (omega arith)))
-  where
-    here : IsTerminal G x ⊎ IsNonterminal G x
-    here =
-        let p = h 0 (omega arith) in
-        elim (cases_lt G.terminals x) [
-          | inl k ↦ inr (record { low = k; high = p.1 })
-          | inr k ↦ inl (record { low = p.0; high = k })
-        ]
+use Rattle.tables.specs.Arrays.{codes_at, rule_at, rules_from, grammar_of}
 
 module _ (R : Rules) where
   from_length : (r k : ℕ) → length (rules_from R r k) ≡ k
@@ -69,9 +56,23 @@ module _ (R : Rules) where
   unfolding right_side start grammar_of
   right_first = refl
 
-  right_part : (i : ℕ) → i < R.count → right_side (grammar_of R) (suc i) ≡ take (get_or R.size (suc i) 0) (drop (9 * suc i) R.right)
+  right_part : (i : ℕ) → i < R.count → right_side (grammar_of R) (suc i) ≡ codes_at R (suc i)
   unfolding right_side rule_at
   right_part i h = ap (λ x. x.right) (rule_at_lem i h)
+
+  pub right_is : (r : ℕ) → IsRule (grammar_of R) r → right_side (grammar_of R) r ≡ codes_at R r
+  right_is zero i = absurd (omega (arith, i.low))
+  right_is (suc r) i = right_part r (omega (arith, rule_high (suc r) i))
+
+  -- Its codes are low enough to count marks by.
+  pub codes_below : (r : ℕ) → All (λ code. code < 88) (codes_at R r)
+  codes_below r = All-take (λ code. code < 88) (get_or R.size r 0) (drop (9 * r) R.right) (All-drop (λ code. code < 88) (9 * r) R.right (All-from_get_or (λ code. code < 88) R.right 0 (λ k h. omega (arith, R.below k, R.terminals63, R.nonterminals24))))
+
+  pub codes_length : (r : ℕ) → r ≤ R.count → length (codes_at R r) ≡ get_or R.size r 0
+  codes_length r h = simp (length-take, length-drop) (omega (arith, R.short r, R.count96, R.rightlength))
+
+  pub codes_get : (r d : ℕ) → d < get_or R.size r 0 → get_or (codes_at R r) d 0 ≡ get_or R.right (9 * r + d) 0
+  codes_get r d l = get_or-take (get_or R.size r 0) (drop (9 * r) R.right) d 0 l ∙ get_or-drop (9 * r) R.right d 0
 
   right_none : (i : ℕ) → R.count ≤ i → right_side (grammar_of R) (suc i) ≡ []
   unfolding right_side no_rule
@@ -81,7 +82,7 @@ module _ (R : Rules) where
   pub right_length : (r : ℕ) → r ≤ R.count → length (right_side (grammar_of R) r) ≡ get_or R.size r 0
   right_length zero h = ap length right_first ∙ sym R.firstsize
   right_length (suc i) h =
-      ap length (right_part i (omega arith)) ∙ simp (length-take, length-drop) (omega (arith, R.short (suc i), R.count96, R.rightlength))
+      ap length (right_part i (omega arith)) ∙ codes_length (suc i) h
 
   -- Behind the last code of a right side the array has 0.
   at_end : (r d : ℕ) → d < 9 → get_or R.size r 0 ≤ d → length (right_side (grammar_of R) r) ≤ d → get_or R.right (9 * r + d) 0 ≡ get_or (right_side (grammar_of R) r) d 0
@@ -93,7 +94,7 @@ module _ (R : Rules) where
   right_code (suc i) d l =
       elim (cases_lt i R.count) [
         | inl h ↦ elim (cases_lt d (get_or R.size (suc i) 0)) [
-          | inl k ↦ sym (ap (λ x. get_or x d 0) (right_part i h) ∙ get_or-take (get_or R.size (suc i) 0) (drop (9 * suc i) R.right) d 0 k ∙ get_or-drop (9 * suc i) R.right d 0)
+          | inl k ↦ sym (ap (λ x. get_or x d 0) (right_part i h) ∙ codes_get (suc i) d k)
           | inr k ↦ at_end (suc i) d l k (omega (arith, right_length (suc i) (omega arith)))
         ]
         | inr h ↦ at_end (suc i) d l (omega (arith, R.past (suc i) (omega arith))) (omega (arith, ap length (right_none i h)))
@@ -123,12 +124,14 @@ module _ (R : Rules) where
   pub within_rules : Within (grammar_of R)
   within_rules =
       record {
-        some_terminal = omega (arith, R.terminals1, terminals_is);
-        terminals = omega (arith, R.terminals63, terminals_is);
-        some_nonterminal = omega (arith, R.nonterminals1, nonterminals_is);
-        nonterminals = omega (arith, R.nonterminals24, nonterminals_is);
-        some_rule = omega (arith, R.count1, rules_count);
-        rules = omega (arith, R.count96, rules_count);
+        counts = record {
+          some_terminal = omega (arith, R.terminals1, terminals_is);
+          terminals = omega (arith, R.terminals63, terminals_is);
+          some_nonterminal = omega (arith, R.nonterminals1, nonterminals_is);
+          nonterminals = omega (arith, R.nonterminals24, nonterminals_is);
+          some_rule = omega (arith, R.count1, rules_count);
+          rules = omega (arith, R.count96, rules_count);
+        };
         right_sides = λ r i. omega (arith, right_length r (rule_high r i), R.short r);
       }
 

@@ -1,6 +1,5 @@
 -- Which numbers are those of rules in arrays.
-use Rattle.std.proofs.Common.{◌≡◌, ℕ, ◌<◌, ◌≤◌, true, false, cond, leb, ◌⊎◌, length, sym, inl, inr, arith}
-use mathlib.Core.Option.{some, none}
+use Rattle.std.proofs.Common.{◌≡◌, ℕ, ◌<◌, ◌≤◌, true, false, cond, leb, ◌⊎◌, length, sym, inl, inr, arith, Some, None}
 use Rattle.std.proofs.lemmas.Bool.{and_from, and_left, and_right, le-leb, lt-leb, cond-true, cond-false}
 use Rattle.grammar.specs.Derivation.{is_rule}
 use Rattle.tables.specs.declared.rules.Rules.{Rules}
@@ -17,8 +16,8 @@ module _ (R : Rules) (r : ℕ) where
   no_rule_told (inr h) =
       and_right (leb 1 r) (leb r (length (grammar_of R).rules)) (lt-leb r (length (grammar_of R).rules) (omega (arith, rules_count R)))
 
-  pub at_rule : (x : ℕ) → 1 ≤ r → r ≤ R.count → some x ≡ cond (is_rule (grammar_of R) r) (some x) none
-  at_rule x low high = sym (cond-true (is_rule (grammar_of R) r) (some x) none (rule_told low high))
+  pub at_rule : (x : ℕ) → 1 ≤ r → r ≤ R.count → Some x ≡ cond (is_rule (grammar_of R) r) (Some x) None
+  at_rule x low high = sym (cond-true (is_rule (grammar_of R) r) (Some x) None (rule_told low high))
 
-  pub at_none : (x : ℕ) → (r ≤ 0) ⊎ (R.count < r) → none ≡ cond (is_rule (grammar_of R) r) (some x) none
-  at_none x h = sym (cond-false (is_rule (grammar_of R) r) (some x) none (no_rule_told h))
+  pub at_none : (x : ℕ) → (r ≤ 0) ⊎ (R.count < r) → None ≡ cond (is_rule (grammar_of R) r) (Some x) None
+  at_none x h = sym (cond-false (is_rule (grammar_of R) r) (Some x) None (no_rule_told h))

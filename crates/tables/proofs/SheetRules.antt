@@ -1,16 +1,34 @@
 -- A sheet that is read whole: what its arrays keep, and the grammar that they stand for.
-use Rattle.std.proofs.Common.{◌≡◌, ℕ, zero, suc, ◌+◌, ◌*◌, ◌/◌, ◌%◌, ◌<◌, ◌≤◌, List, length, get_or, set, replicate, sym, refl, ap, ◌∙◌, subst, inl, inr, arith, length-set}
+use Rattle.std.proofs.Common.{◌≡◌, ℕ, zero, suc, ◌+◌, ◌*◌, ◌/◌, ◌%◌, ◌<◌, ◌≤◌, List, length, get_or, set, replicate, sym, refl, ap, ◌∙◌, subst, inl, inr, rules, arith, length-drop, length-set, length-take}
 use lib.ListN.{length-replicate}
-use Rattle.std.proofs.lemmas.List.{ext_get_or, get_or_past, get_or-set_same, get_or-set_other}
+use borrow.Rule.Slice.PartMut.{put_mid, same_len_mid}
+use Rattle.std.proofs.lemmas.List.{places, ext_get_or, get_or_past, get_or-set_same, get_or-set_other}
 use Rattle.std.proofs.lemmas.Bool.{cases_lt, cases_eq}
-use Rattle.grammar.specs.Grammar.{Grammar, Rule, IsNonterminal, start, no_rule, left_side, right_side}
+use Rattle.grammar.specs.Grammar.{AllCodes, Grammar, Rule, IsNonterminal, start, no_rule, left_side, right_side}
 use Rattle.grammar.specs.Outcome.{Within, InRange, LowestOutOfRange}
 use Rattle.grammar.specs.StateLists.{IsCode}
 use Rattle.tables.specs.declared.rules.Rules.{Rules}
 use Rattle.tables.specs.Arrays.{grammar_of}
-use Rattle.tables.specs.SheetArrays.{Lengths, Written, Sides}
-use Rattle.tables.proofs.RuleArrays.{each_code, rules_count, right_length, right_code, left_is, is_rule_lem, terminals_is, nonterminals_is}
-use Rattle.tables.proofs.SheetArrays.{all_codes, zeros, first_length}
+use Rattle.tables.specs.SheetArrays.{Lengths, Sides}
+use Rattle.tables.proofs.Replicas.{replicate_at}
+use Rattle.tables.proofs.RuleArrays.{rules_count, right_length, right_code, left_is, is_rule_lem, terminals_is, nonterminals_is}
+use Rattle.grammar.proofs.Codes.{all_codes}
+use Rattle.tables.proofs.SheetArrays.{first_length}
+
+-- What a list holds after a part of it, k elements from the a-th on, was written.
+module _ (a k : ℕ) (xs ys : List ℕ) (fits : a + k ≤ length xs) where
+  put_below : (i : ℕ) → i < a → get_or (put_mid a k xs ys) i 0 ≡ get_or xs i 0
+  put_below i h = search (rules, places)
+
+  module _ (long : length ys ≡ k) where
+    put_length : length (put_mid a k xs ys) ≡ length xs
+    put_length = same_len_mid a k xs ys (long ∙ sym (simp (length-take, length-drop) (omega arith)))
+
+    put_at : (d : ℕ) → d < k → get_or (put_mid a k xs ys) (a + d) 0 ≡ get_or ys d 0
+    put_at d h = search (rules, places)
+
+    put_above : (i : ℕ) → a + k ≤ i → get_or (put_mid a k xs ys) i 0 ≡ get_or xs i 0
+    put_above i h = search (rules, places)
 
 module _ (G : Grammar) where
   first_code : (d : ℕ) → get_or (right_side G 0) (suc d) 0 ≡ 0
@@ -31,51 +49,50 @@ module _ (G : Grammar) where
       record {
         left_places = length-replicate {A = ℕ} 97 0;
         right_places = length-set {A = ℕ} (replicate 873 0) 0 (t + 1) ∙ length-replicate {A = ℕ} 873 0;
-        lefts = λ r h. subst (λ q. get_or (replicate 97 0) q 0 ≡ left_side G q) (let e : 0 ≡ r = omega arith in e) (zeros 97 0 ∙ sym left_first);
-        lefts_rest = λ r h. zeros 97 r;
+        lefts = λ r h. subst (λ q. get_or (replicate 97 0) q 0 ≡ left_side G q) (let e : 0 ≡ r = omega arith in e) (replicate_at 0 97 0 ∙ sym left_first);
+        lefts_rest = λ r h. replicate_at 0 97 r;
         codes = λ r d h l. subst (λ q. get_or (set (replicate 873 0) 0 (t + 1)) (9 * q + d) 0 ≡ get_or (right_side G q) d 0) (let e : 0 ≡ r = omega arith in e) (first d);
         codes_rest = λ i h. rest i (omega arith);
         in_range = λ r low h. absurd (omega arith);
       }
     where
       rest : (i : ℕ) → 1 ≤ i → ◌≡◌ {A = ℕ} (get_or (set (replicate 873 0) 0 (t + 1)) i 0) 0
-      rest i h = get_or-set_other {A = ℕ} (replicate 873 0) 0 i (t + 1) 0 (λ e. omega arith) ∙ zeros 873 i
+      rest i h = get_or-set_other {A = ℕ} (replicate 873 0) 0 i (t + 1) 0 (λ e. omega arith) ∙ replicate_at 0 873 i
 
       first : (d : ℕ) → get_or (set (replicate 873 0) 0 (t + 1)) (9 * 0 + d) 0 ≡ get_or (right_side G 0) d 0
       first zero = get_or-set_same {A = ℕ} (replicate 873 0) 0 (t + 1) 0 (omega (arith, length-replicate {A = ℕ} 873 0)) ∙ (let e : t + 1 ≡ suc G.terminals = omega arith in e) ∙ sym start_code
       first (suc d) = rest (9 * 0 + suc d) (omega arith) ∙ sym (first_code d)
 
-  module _ (n x : ℕ) (left right after : List ℕ) (f : Sides G n left right) (low : 1 ≤ n) (room : n ≤ 96) (is : x ≡ left_side G n) (side : IsNonterminal G x) (short : length (right_side G n) ≤ 8) (w : Written (right_side G n) (length (right_side G n)) (9 * n) (G.terminals + G.nonterminals) right after) where
-    range : InRange G n
-    range =
-        record {
-          left = subst (λ y. IsNonterminal G y) is side;
-          right = each_code G (right_side G n) λ d h. (w.low d h, w.high d h);
-        }
+  module _ (n x k : ℕ) (left right ys : List ℕ) (f : Sides G n left right) (low : 1 ≤ n) (room : n ≤ 96) (is : x ≡ left_side G n) (side : IsNonterminal G x) (short : k ≤ 8) (long : k ≡ length (right_side G n)) (same : ys ≡ right_side G n) (all : AllCodes G (right_side G n)) where
+    abbrev after : List ℕ
+    after = put_mid (9 * n) k right ys
+
+    fits : 9 * n + k ≤ length right
+    fits = omega (arith, f.right_places)
 
     codes_more : (r d : ℕ) → r < n + 1 → d < 9 → get_or after (9 * r + d) 0 ≡ get_or (right_side G r) d 0
     codes_more r d h l =
         elim (cases_eq r n) [
-          | inl e ↦ subst (λ q. get_or after (9 * q + d) 0 ≡ get_or (right_side G q) d 0) (sym e) (elim (cases_lt d (length (right_side G n))) [
-            | inl k ↦ w.here d k
-            | inr k ↦ w.other (9 * n + d) (inr (omega arith)) ∙ f.codes_rest (9 * n + d) (omega arith) ∙ sym (get_or_past (right_side G n) d 0 k)
+          | inl e ↦ subst (λ q. get_or after (9 * q + d) 0 ≡ get_or (right_side G q) d 0) (sym e) (elim (cases_lt d k) [
+            | inl b ↦ put_at (9 * n) k right ys fits (ap length same ∙ sym long) d b ∙ ap (λ l. get_or l d 0) same
+            | inr b ↦ put_above (9 * n) k right ys fits (ap length same ∙ sym long) (9 * n + d) (omega arith) ∙ f.codes_rest (9 * n + d) (omega arith) ∙ sym (get_or_past (right_side G n) d 0 (omega arith))
           ])
-          | inr ne ↦ w.other (9 * r + d) (inl (omega arith)) ∙ f.codes r d (omega arith) l
+          | inr ne ↦ put_below (9 * n) k right ys fits (9 * r + d) (omega arith) ∙ f.codes r d (omega arith) l
         ]
 
     pub sides_more : Sides G (n + 1) (set left n x) after
     sides_more =
         record {
           left_places = length-set left n x ∙ f.left_places;
-          right_places = w.places;
+          right_places = put_length (9 * n) k right ys fits (ap length same ∙ sym long) ∙ f.right_places;
           lefts = λ r h. elim (cases_eq r n) [
             | inl e ↦ subst (λ q. get_or (set left n x) q 0 ≡ left_side G q) (sym e) (get_or-set_same left n x 0 (omega (arith, f.left_places)) ∙ is)
             | inr ne ↦ get_or-set_other left n r x 0 ne ∙ f.lefts r (omega arith)
           ];
           lefts_rest = λ r h. get_or-set_other left n r x 0 (λ e. omega arith) ∙ f.lefts_rest r (omega arith);
           codes = codes_more;
-          codes_rest = λ i h. w.other i (inr (omega arith)) ∙ f.codes_rest i (omega arith);
-          in_range = λ r k h. elim (cases_eq r n) [ inl e ↦ subst (λ q. InRange G q) (sym e) range | inr ne ↦ f.in_range r k (omega arith) ];
+          codes_rest = λ i h. put_above (9 * n) k right ys fits (ap length same ∙ sym long) i (omega arith) ∙ f.codes_rest i (omega arith);
+          in_range = λ r k h. elim (cases_eq r n) [ inl e ↦ subst (λ q. InRange G q) (sym e) (record { left = subst (λ y. IsNonterminal G y) is side; right = all }) | inr ne ↦ f.in_range r k (omega arith) ];
         }
 
   pub lowest : (r : ℕ) (left right : List ℕ) → Sides G r left right → 1 ≤ r → r ≤ length G.rules → (InRange G r → ⊥) → LowestOutOfRange G r
@@ -89,7 +106,7 @@ module _ (G : Grammar) where
   -- A code of a right side, that of rule 0 too, is from 1 to T + N.
   code_range : Within G → (r d : ℕ) → (1 ≤ r → InRange G r) → d < length (right_side G r) → IsCode G (get_or (right_side G r) d 0)
   code_range W zero zero all h =
-      subst (λ X. IsCode G X) (sym start_code) (record { low = omega arith; high = omega (arith, W.some_nonterminal) })
+      subst (λ X. IsCode G X) (sym start_code) (record { low = omega arith; high = omega (arith, W.counts.some_nonterminal) })
   code_range W zero (suc d) all h = absurd (first_only d h)
   code_range W (suc r) d all h = all_codes G (right_side G (suc r)) d (all (omega arith)).right h
 

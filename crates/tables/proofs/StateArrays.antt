@@ -1,6 +1,6 @@
 -- The numbering of states in arrays, by the lemmas on lists, for the grammar of rules in arrays.
-use Rattle.std.proofs.Common.{◌≡◌, ℕ, ◌+◌, ◌*◌, ◌<◌, ◌≤◌, Bool, List, [], length, set, sym, refl, ap, ◌∙◌, subst, arith, length-set}
-use Rattle.std.proofs.lemmas.List.{get_or-set_same, get_or-set_other}
+use Rattle.std.proofs.Common.{◌≡◌, ℕ, ◌+◌, ◌*◌, ◌<◌, ◌≤◌, Bool, List, [], length, set, sym, refl, ap, ◌∙◌, subst, arith}
+use Rattle.std.proofs.lemmas.List.{get_or-set_other}
 use Rattle.grammar.specs.Items.{Completes, Move, Waits, origin}
 use Rattle.grammar.specs.ItemLists.{items_of, origin_list, CompletesAt, BehindAt, WaitsAt}
 use Rattle.grammar.specs.States.{Crowded, Numbered}
@@ -12,18 +12,7 @@ use Rattle.grammar.proofs.Placing.{placed_more, placed_full}
 use Rattle.tables.specs.declared.rules.Rules.{Rules}
 use Rattle.tables.specs.declared.states.States.{States}
 use Rattle.tables.specs.Arrays.{grammar_of, automaton}
-use Rattle.tables.specs.Fingerprints.{Printed}
 use Rattle.tables.proofs.RuleArrays.{laid_rules, valid_rules, within_rules, rules_count, terminals_is, nonterminals_is}
-
--- States so far that are stored in other terms.
-pub sofar_at : (R : Rules) (s X : ℕ) {n m : ℕ} {sets tets : List (List Bool)} {gotos hotos : List ℕ} → m ≡ n → tets ≡ sets → hotos ≡ gotos → Sofar (grammar_of R) n sets gotos s X → Sofar (grammar_of R) m tets hotos s X
-sofar_at R s X {n} {m} {sets} {tets} {gotos} {hotos} a b d f =
-    subst (λ k. Sofar (grammar_of R) k tets hotos s X) (sym a)
-    (subst (λ x. Sofar (grammar_of R) n x hotos s X) (sym b) (subst (λ g. Sofar (grammar_of R) n sets g s X) (sym d) f))
-
-pub printed_at : (end : ℕ) (prints : List ℕ) {n m : ℕ} {sets tets : List (List Bool)} → m ≡ n → tets ≡ sets → Printed end n sets prints → Printed end m tets prints
-printed_at end prints {n} {m} {sets} {tets} a b f =
-    subst (λ k. Printed end k tets prints) (sym a) (subst (λ x. Printed end n x prints) (sym b) f)
 
 -- Giving a set a number leaves the states before as they are.
 pub placed_keeps : {items : List Bool} {n m t : ℕ} {sets tets : List (List Bool)} → Placed items n sets m tets t → (s : ℕ) → s < n → (n ≤ m) × (state_at tets s ≡ state_at sets s)
@@ -49,11 +38,11 @@ module _ (R : Rules) where
   pub is_code : (X : ℕ) → 1 ≤ X → X ≤ R.terminals + R.nonterminals → IsCode (grammar_of R) X
   is_code X low high = record { low = low; high = omega (arith, terminals_is R, nonterminals_is R) }
 
-  pub sofar_first : (sets : List (List Bool)) (gotos : List ℕ) (items : List Bool) → length sets ≡ 96 → length gotos ≡ 8448 → length items ≡ 873 → CompletesAt R.left R.right R.count origin_list items → Sofar (grammar_of R) 1 (set sets 0 items) gotos 0 1
-  sofar_first sets gotos items a b size c =
-      let e = get_or-set_same sets 0 items [] (omega arith) in
-      sofar_start (grammar_of R) (within_rules R) (set sets 0 items) gotos (length-set sets 0 items ∙ a) b (ap length e ∙ size)
-      (subst (λ x. Completes (grammar_of R) origin (items_of x)) (sym e) (begins_list (grammar_of R) (valid_rules R) (within_rules R) R.left R.right (laid_rules R) items (completes_count origin_list items c)))
+  pub sofar_first : (n : ℕ) (sets : List (List Bool)) (gotos : List ℕ) (items : List Bool) → n ≡ 1 → length sets ≡ 96 → length gotos ≡ 8448 → length items ≡ 873 → state_at sets 0 ≡ items → CompletesAt R.left R.right R.count origin_list items → Sofar (grammar_of R) n sets gotos 0 1
+  sofar_first n sets gotos items one a b size e c =
+      subst (λ k. Sofar (grammar_of R) k sets gotos 0 1) (sym one)
+      (sofar_start (grammar_of R) (within_rules R) sets gotos a b (ap length e ∙ size)
+      (subst (λ x. Completes (grammar_of R) origin (items_of x)) (sym e) (begins_list (grammar_of R) (valid_rules R) (within_rules R) R.left R.right (laid_rules R) items (completes_count origin_list items c))))
 
   module _ {n m t : ℕ} {sets tets : List (List Bool)} {gotos : List ℕ} {s X : ℕ} {from moved items : List Bool} (f : Sofar (grammar_of R) n sets gotos s X) (inside : s < n) (is : state_at sets s ≡ from) (ok : IsCode (grammar_of R) X) (size : length items ≡ 873) (w : WaitsAt R.right from X) (b : BehindAt R.right from X moved) (c : CompletesAt R.left R.right R.count moved items) (p : Placed items n sets m tets t) where
     waits : Waits (grammar_of R) (items_of (state_at sets s)) X

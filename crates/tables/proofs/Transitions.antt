@@ -1,6 +1,5 @@
 -- Transitions and their places.
-use Rattle.std.proofs.Common.{◌≡◌, ℕ, ◌+◌, ◌-◌, ◌*◌, ◌<◌, ◌≤◌, sym, refl, ap, ◌∙◌, arith}
-use mathlib.Core.Option.{some}
+use Rattle.std.proofs.Common.{◌≡◌, ℕ, ◌+◌, ◌-◌, ◌*◌, ◌<◌, ◌≤◌, sym, refl, ap, ◌∙◌, arith, Some}
 use Rattle.grammar.specs.Lookahead.{Transition}
 use Rattle.grammar.specs.Grammar.{Grammar}
 use Rattle.grammar.specs.States.{Automaton}
@@ -64,7 +63,7 @@ module _ (R : Rules) (S : States) where
       }
 
   -- A move by a nonterminal is a transition.
-  pub transition : (p X t : ℕ) → R.terminals < X → some t ≡ A.goto p X → Transition G A (p, X)
+  pub transition : (p X t : ℕ) → R.terminals < X → Some t ≡ A.goto p X → Transition G A (p, X)
   transition p X t low e =
       let m = goto_moves R S p X t (sym e) in
       record {
@@ -74,8 +73,8 @@ module _ (R : Rules) (S : States) where
       }
 
   -- A place that leads on.
-  pub at_place : (i t : ℕ) → some t ≡ A.goto (transition_at R i).0 (transition_at R i).1 → Transition G A (transition_at R i)
+  pub at_place : (i t : ℕ) → Some t ≡ A.goto (transition_at R i).0 (transition_at R i).1 → Transition G A (transition_at R i)
   at_place i t e = transition (transition_at R i).0 (transition_at R i).1 t (omega arith) e
 
-  pub behind_place : (i t : ℕ) → some t ≡ A.goto (transition_at R i).0 (transition_at R i).1 → t < S.count
+  pub behind_place : (i t : ℕ) → Some t ≡ A.goto (transition_at R i).0 (transition_at R i).1 → t < S.count
   behind_place i t e = (goto_moves R S (transition_at R i).0 (transition_at R i).1 t (sym e)).to

@@ -4,19 +4,14 @@ use Rattle.std.proofs.lemmas.List.{get_or-set_same, get_or-set_other, get_or_pas
 use Rattle.std.proofs.lemmas.Bool.{both_ways, cases_eq, cases_lt}
 use Rattle.grammar.specs.ItemLists.{In}
 use Rattle.tables.specs.Closing.{falses}
+use Rattle.tables.proofs.Replicas.{replicate_at}
 
 pub in_below : (xs : List Bool) (i : ℕ) → In xs i → i < length xs
 in_below xs i h =
     elim (cases_lt i (length xs)) [ inl l ↦ l | inr g ↦ absurd (both_ways (get_or xs i false) (get_or_past xs i false g) h) ]
 
 pub in_none : (n i : ℕ) → In (replicate n false) i → ⊥
-in_none n i h =
-    both_ways (get_or (replicate n false) i false) (all n i) h
-  where
-    all : (n i : ℕ) → get_or (replicate n false) i false ≡ false
-    all zero i = refl
-    all (suc n) zero = refl
-    all (suc n) (suc i) = all n i
+in_none n i h = both_ways (get_or (replicate n false) i false) (replicate_at false n i) h
 
 pub in_set : (xs : List Bool) (i : ℕ) → i < length xs → In (set xs i true) i
 in_set xs i h = get_or-set_same xs i true false h

@@ -1,5 +1,5 @@
 -- What is gathered along "is used by" from a mark at the start.
-use Rattle.std.proofs.Common.{◌≡◌, ℕ, zero, suc, ◌+◌, false, List, length, get_or, replicate, sym, refl, ap, ◌∙◌, subst, inl, inr, arith}
+use Rattle.std.proofs.Common.{◌≡◌, ℕ, ◌+◌, false, List, length, replicate, sym, refl, ap, ◌∙◌, subst, inl, inr, arith}
 use Rattle.std.proofs.lemmas.List.{get_or-set_same, get_or-set_other, get_or_past, length-set, length-replicate}
 use Rattle.std.proofs.lemmas.Bool.{cases_eq, cases_lt, both_ways}
 use Rattle.grammar.specs.Grammar.{start}
@@ -12,14 +12,9 @@ use Rattle.tables.specs.declared.rules.Rules.{Rules}
 use Rattle.tables.specs.Arrays.{grammar_of}
 use Rattle.tables.specs.UsedBy.{users}
 use Rattle.tables.specs.UsedMarks.{IsYes, UsedMarks, StartYes}
+use Rattle.tables.proofs.Replicas.{replicate_at}
 use Rattle.tables.proofs.RuleArrays.{terminals_is}
 use Rattle.tables.proofs.UsedBy.{used_reaches, reaches_used, used_below}
-
--- The same at every place, and past the end.
-alike : {A : Type 0} (x : A) (n X : ℕ) → get_or (replicate n x) X x ≡ x
-alike x zero X = refl
-alike x (suc n) zero = refl
-alike x (suc n) (suc X) = alike x n X
 
 module _ (R : Rules) where
   start_is : R.terminals + 1 ≡ start (grammar_of R)
@@ -34,7 +29,7 @@ module _ (R : Rules) where
     one_seed X h =
         elim (cases_eq X (R.terminals + 1)) [
           | inl e ↦ e
-          | inr ne ↦ absurd (both_ways false refl (sym (ap marked (alike no_mark 88 X)) ∙ ap marked (sym (get_or-set_other (replicate 88 no_mark) (R.terminals + 1) X y.mark no_mark ne)) ∙ subst (λ s. IsYes s X) y.is h))
+          | inr ne ↦ absurd (both_ways false refl (sym (ap marked (replicate_at no_mark 88 X)) ∙ ap marked (sym (get_or-set_other (replicate 88 no_mark) (R.terminals + 1) X y.mark no_mark ne)) ∙ subst (λ s. IsYes s X) y.is h))
         ]
 
     start_seed : IsYes seeds (R.terminals + 1)

@@ -1,5 +1,5 @@
 -- The lowest nonterminal that lacks a mark is the lowest useless one.
-use Rattle.std.proofs.Common.{ℕ, ◌+◌, ◌<◌, Bool, false, List, get_or, Some, None, Option, inl, inr, arith, MatchOption}
+use Rattle.std.proofs.Common.{ℕ, ◌+◌, ◌<◌, ◌≤◌, Bool, false, List, get_or, Some, None, Option, inl, inr, arith, MatchOption}
 use Rattle.std.proofs.lemmas.Bool.{both_ways, cases_Bool, cases_lt}
 use Rattle.grammar.specs.Grammar.{IsNonterminal}
 use Rattle.grammar.specs.Trees.{Productive}
@@ -9,9 +9,18 @@ use Rattle.gather.specs.declared.mark.Mark.{Mark}
 use Rattle.tables.specs.declared.rules.Rules.{Rules}
 use Rattle.tables.specs.Arrays.{grammar_of}
 use Rattle.tables.specs.AllUseful.{AllUseful}
+use Rattle.tables.specs.CodeMarks.{Marked}
 use Rattle.tables.specs.ProductiveMarks.{ProductiveMarks}
-use Rattle.tables.specs.UsedMarks.{UsedMarks, BothBelow, LowestUnmarked}
+use Rattle.tables.specs.UsedMarks.{IsYes, UsedMarks, BothBelow, LowestUnmarked}
 use Rattle.tables.proofs.RuleArrays.{terminals_is, nonterminals_is}
+
+-- The first nonterminal without both marks is the lowest.
+pub first_unmarked : (R : Rules) (productive : List Bool) (used : List Mark) (r : Option ℕ)
+    → MatchOption r ((X : ℕ) → R.terminals + 1 ≤ X → X < R.terminals + R.nonterminals + 1 → Marked productive X × IsYes used X) (λ X. (R.terminals + 1 ≤ X) × (X < R.terminals + R.nonterminals + 1) × (Marked productive X × IsYes used X → ⊥) × ((Y : ℕ) → R.terminals + 1 ≤ Y → Y < X → Marked productive Y × IsYes used Y))
+    → MatchOption r (BothBelow R productive used (R.terminals + R.nonterminals + 1)) (LowestUnmarked R productive used)
+first_unmarked R productive used None all = λ X low high. all X (omega arith) high
+first_unmarked R productive used (Some X) k =
+    record { low = omega (arith, k.0); high = omega (arith, k.1); lacks = λ a b. k.2 (a, b); lower = λ Y low high. k.3 Y (omega arith) high }
 
 module _ (R : Rules) (productive : List Bool) (used : List Mark) (p : ProductiveMarks (grammar_of R) productive) (u : UsedMarks (grammar_of R) used) where
   -- A nonterminal with both marks is of use.

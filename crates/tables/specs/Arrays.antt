@@ -6,9 +6,13 @@ use Rattle.grammar.specs.StateLists.{automaton_of}
 use Rattle.tables.specs.declared.rules.Rules.{Rules}
 use Rattle.tables.specs.declared.states.States.{States}
 
--- A rule: its left side, and as many codes as it is long.
+-- The codes on the right of a rule: as many as it is long.
+abbrev pub codes_at : Rules → ℕ → List ℕ
+codes_at R r = take (slice_index R.size r) (drop (9 * r) R.right)
+
+-- A rule: its left side, and its codes.
 unfoldable pub rule_at : Rules → ℕ → Rule
-rule_at R r = record { left = slice_index R.left r; right = take (slice_index R.size r) (drop (9 * r) R.right) }
+rule_at R r = record { left = slice_index R.left r; right = codes_at R r }
 
 -- k rules, from the rule r on.
 unfoldable pub rules_from : Rules → ℕ → ℕ → List Rule

@@ -1,6 +1,5 @@
 -- What building tables comes to.
 use Rattle.std.specs.Prelude.{◌≡◌, ℕ, Some, None, Ok, Err, Option, Result}
-use Rattle.std.proofs.Math.Option.{Option as Maybe}
 use Rattle.grammar.specs.Grammar.{Grammar}
 use Rattle.grammar.specs.States.{Automaton}
 use Rattle.grammar.specs.Outcome.{Outcome, built, refused}
@@ -14,7 +13,7 @@ use Rattle.tables.specs.Held.{Held, blank, holding}
 
 abbrev pub held_by : Option Full → Held
 held_by None = blank
-held_by (Some f) = holding (grammar_of f.rules) f.states.count (automaton f.rules f.states) (cell_at f.cells)
+held_by (Some f) = holding (grammar_of f.machine.rules) f.machine.states.count (automaton f.machine.rules f.machine.states) (cell_at f.cells)
 
 -- What a value of tables holds.
 abbrev pub held : Tables → Held
@@ -22,10 +21,10 @@ held t = held_by t.full
 
 -- The rules are tabled, or refused as the definitions decide.
 abbrev pub Tabled : Grammar → Result Full Refusal → Type 0
-Tabled G (Ok f) = grammar_of f.rules ≡ G
+Tabled G (Ok f) = grammar_of f.machine.rules ≡ G
 Tabled G (Err e) = Outcome G (refused e)
 
 -- Done: the tables hold the grammar with just the states and cells that building it comes to. Refused: they are blank.
 abbrev pub BuiltFrom : Grammar → Result (Unit {0}) Refusal → Held → Type 0
-BuiltFrom G (Ok x) h = ∥ ((n : ℕ) × (A : Automaton) × (cells : ℕ → ℕ → Maybe Action) × (h ≡ holding G n A cells) × Outcome G (built n A cells)) ∥₁
+BuiltFrom G (Ok x) h = ∥ ((n : ℕ) × (A : Automaton) × (cells : ℕ → ℕ → Option Action) × (h ≡ holding G n A cells) × Outcome G (built n A cells)) ∥₁
 BuiltFrom G (Err e) h = (h ≡ blank) × Outcome G (refused e)

@@ -1,9 +1,10 @@
 -- Codes that derive lists of the first words, and the rounds over the rules that find them.
-use Rattle.std.specs.Prelude.{◌≡◌, ℕ, ◌+◌, ◌*◌, ◌<◌, ◌≤◌, Bool, false, List, slice_index, slice_index_or}
+use Rattle.std.specs.Prelude.{◌≡◌, ℕ, ◌<◌, ◌≤◌, Bool, false, List, All, slice_index, slice_index_or}
 use Rattle.std.specs.List.{AllByRecursion}
 use Rattle.grammar.specs.Grammar.{Grammar}
 use Rattle.grammar.specs.Trees.{Tree}
 use Rattle.tables.specs.declared.rules.Rules.{Rules}
+use Rattle.tables.specs.Arrays.{codes_at}
 use Rattle.tables.specs.CodeMarks.{Marked, MarksOf}
 
 -- The code derives a list of words that are at most n.
@@ -19,7 +20,7 @@ MarksBelow n marks = MarksOf (λ X. (1 ≤ X) × (X < n)) marks
 
 -- Every code on the right of the rule is marked.
 abbrev pub RightMarked : Rules → List Bool → ℕ → Type 0
-RightMarked R marks r = (d : ℕ) → d < slice_index R.size r → Marked marks (slice_index R.right (9 * r + d))
+RightMarked R marks r = All (Marked marks) (codes_at R r)
 
 -- The rule's right side is marked, and its left side is not.
 pub record Lacks (R : Rules) (marks : List Bool) (r : ℕ) : Type 0 where

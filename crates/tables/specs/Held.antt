@@ -1,6 +1,5 @@
 -- What tables hold.
-use Rattle.std.specs.Prelude.{ℕ, List, Option as Answer}
-use Rattle.std.proofs.Math.Option.{Option}
+use Rattle.std.specs.Prelude.{ℕ, List, Option}
 use Rattle.grammar.specs.Grammar.{Grammar}
 use Rattle.grammar.specs.States.{Automaton}
 use Rattle.grammar.specs.Outcome.{Outcome, built}
@@ -12,7 +11,7 @@ use Rattle.tables.specs.Arrays.{grammar_of, automaton}
 use Rattle.tables.specs.Cells.{cell_at}
 
 -- The tables are exactly those of their rules: what building the rules comes to, with every nonterminal of use.
-pub record Exactly (R : Rules) (S : States) (cells : List (List (Answer Action))) : Type 0 where
+pub record Exactly (R : Rules) (S : States) (cells : List (List (Option Action))) : Type 0 where
   pub outcome : Outcome (grammar_of R) (built S.count (automaton R S) (cell_at cells))
   pub useful : AllUseful (grammar_of R)
 

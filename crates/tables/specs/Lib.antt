@@ -10,7 +10,6 @@ pub mod SheetArrays
 pub mod Closing
 pub mod Fingerprints
 pub mod EntryRows
-pub mod Answers
 pub mod Transitions
 pub mod WordSets
 pub mod ReadSteps

@@ -1,5 +1,5 @@
 -- What the cells of one state mean while they are filled: actions take turns, shift and accept first and then rules by number, and each at one word after the other.
-use Rattle.std.specs.Prelude.{◌≡◌, ℕ, ◌+◌, ◌*◌, ◌<◌, length, Some, None, Option as Answer, slice_index_or}
+use Rattle.std.specs.Prelude.{◌≡◌, ℕ, ◌+◌, ◌*◌, ◌<◌, length, Some, None, slice_index_or, Option}
 use Rattle.grammar.specs.Cells.{rank, Holds}
 use Rattle.grammar.specs.declared.action.Action.{Action}
 use Rattle.tables.specs.declared.conflict.Conflict.{Conflict}
@@ -23,7 +23,7 @@ module _ (R : Rules) (S : States) (s : ℕ) where
     pub lowest : (c : Action) → Has w c → rank c < rank a → ⊥
 
   -- What a cell holds when the turns before m are over.
-  abbrev pub CellUpto : ℕ → ℕ → Answer Action → Type 0
+  abbrev pub CellUpto : ℕ → ℕ → Option Action → Type 0
   CellUpto m w None = (c : Action) → Has w c → turn w c < m → ⊥
   CellUpto m w (Some a) = FirstAction m w a
 
@@ -39,7 +39,7 @@ module _ (R : Rules) (S : States) (s : ℕ) where
     pub least : (c : Action) → Has k.word c → rank c < rank k.second → c ≡ k.first
     pub lower : (w : ℕ) → w < k.word → Alone m w
 
-  abbrev pub ConflictUpto : ℕ → Answer Conflict → Type 0
+  abbrev pub ConflictUpto : ℕ → Option Conflict → Type 0
   ConflictUpto m None = (w : ℕ) → Alone m w
   ConflictUpto m (Some k) = LowestConflict m k
 

@@ -1,5 +1,5 @@
 -- The cells of one state as they are filled, by rising rule.
-use Rattle.std.specs.Prelude.{ℕ, zero, suc, cond, Some, None, Option as Answer, nat_lt, slice_index_or, slice_set}
+use Rattle.std.specs.Prelude.{ℕ, zero, suc, cond, Some, None, nat_lt, slice_index_or, slice_set, Option}
 use Rattle.gather.specs.Members.{has}
 use Rattle.gather.specs.declared.word_set.WordSet.{WordSet}
 use Rattle.grammar.specs.declared.action.Action.{Action}
@@ -8,12 +8,12 @@ use Rattle.tables.specs.declared.conflict.Conflict.{Conflict}
 use Rattle.tables.specs.declared.row.Row.{Row}
 
 -- The conflict with the lower word; the old one if they have the same.
-abbrev pub lowest_of : Answer Conflict → Conflict → Answer Conflict
+abbrev pub lowest_of : Option Conflict → Conflict → Option Conflict
 lowest_of None x = Some x
 lowest_of (Some k) x = cond (nat_lt x.word k.word) (Some x) (Some k)
 
 -- A row with the reduction by the rule r entered at the word w, where the cell has what is told.
-abbrev pub entered_by : Answer Action → ℕ → ℕ → Row → Row
+abbrev pub entered_by : Option Action → ℕ → ℕ → Row → Row
 entered_by None w r row = record { cells = slice_set row.cells w (Some (Reduce r)); conflict = row.conflict }
 entered_by (Some a) w r row = record { cells = row.cells; conflict = lowest_of row.conflict (record { word = w; first = a; second = Reduce r }) }
 

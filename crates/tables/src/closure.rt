@@ -1,5 +1,6 @@
 // Completes sets of items: behind a dot before a nonterminal stand all its rules, with the dot in front.
-ghost use Rattle.std.specs.Prelude.{◌≡◌, ℕ, ◌+◌, ◌<◌, ◌≤◌, Bool, true, false, List, slice_index};
+// Sets come beside the rules, since they are kept and compared without them.
+ghost use Rattle.std.specs.Prelude.{◌≡◌, ℕ, ◌+◌, ◌<◌, ◌≤◌, Bool, true, false, List};
 ghost use Rattle.grammar.specs.ItemLists.{CompletesAt, In};
 ghost use Rattle.tables.specs.Closing.{Ahead, Full, Grown, Waiting, falses};
 
@@ -10,21 +11,12 @@ pub(crate) fn waiting(rules: &Rules, items: &[bool; 873]) -> [bool; 88]
     ensures { Waiting rules.now items.now result }
 {
     let mut ahead = [false; 88];
-    for i in 0..9 * rules.count as usize + 9 {
-        if items[i] {
+    for (i, is_in) in items[..9 * rules.count as usize + 9].iter().enumerate() {
+        if *is_in {
             ahead[rules.right[i] as usize] = true;
         }
     }
     ahead
-}
-
-// Whether the left side of a rule is ahead.
-fn begins(rules: &Rules, ahead: &[bool; 88], q: usize) -> bool
-    requires { q < 97 }
-    ensures yes { result ≡ true → In ahead.now (slice_index rules.now.left q) }
-    ensures no { result ≡ false → In ahead.now (slice_index rules.now.left q) → ⊥ }
-{
-    ahead[rules.left[q] as usize]
 }
 
 // Adds the first code of each rule whose left side is ahead; whether there was one to add.
@@ -34,9 +26,10 @@ fn sweep(rules: &Rules, ahead: &mut [bool; 88]) -> bool
     ensures full { result ≡ false → Full rules.now ahead.new (rules.now.count + 1) }
 {
     let mut more = false;
+    // The rules' numbers are what is looked at here: a rule's items stand from 9 times its number on.
     for q in 1..rules.count as usize + 1 {
         let first = rules.right[9 * q] as usize;
-        if begins(rules, ahead, q) && !ahead[first] {
+        if ahead[rules.left[q] as usize] && !ahead[first] {
             ahead[first] = true;
             more = true;
         }
@@ -59,8 +52,9 @@ pub(crate) fn complete(rules: &Rules, items: &mut [bool; 873])
     ensures { CompletesAt rules.now.left rules.now.right rules.now.count items.old items.new }
 {
     let ahead = ahead_of(rules, items);
+    // By rule numbers, as above.
     for q in 1..rules.count as usize + 1 {
-        if begins(rules, &ahead, q) {
+        if ahead[rules.left[q] as usize] {
             items[9 * q] = true;
         }
     }

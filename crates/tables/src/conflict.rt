@@ -15,14 +15,6 @@ pub struct Conflict {
 pub(crate) fn lowest(old: Option<Conflict>, more: Conflict) -> Option<Conflict>
     ensures { result ≡ lowest_of old more }
 {
-    match old {
-        Some(conflict) => {
-            if more.word < conflict.word {
-                Some(more)
-            } else {
-                Some(conflict)
-            }
-        }
-        None => Some(more),
-    }
+    old.filter(|conflict| conflict.word <= more.word)
+        .or(Some(more))
 }

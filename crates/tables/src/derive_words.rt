@@ -1,5 +1,5 @@
 // Codes that derive lists of the first words, found in rounds over the rules.
-ghost use Rattle.std.specs.Prelude.{◌≡◌, ◌+◌, ◌<◌, ◌≤◌, true, false, MatchOption, slice_set};
+ghost use Rattle.std.specs.Prelude.{◌≡◌, ◌+◌, ◌<◌, ◌≤◌, Decides, MatchOption};
 ghost use Rattle.tables.specs.Arrays.{grammar_of};
 ghost use Rattle.tables.specs.CodeMarks.{MarksOf};
 ghost use Rattle.tables.specs.DeriveWords.{DerivesWords, Lacks, MarksBelow, NoneLacks, RightMarked};
@@ -11,35 +11,17 @@ use super::rules::Rules;
 // Whether every code on the right of the rule is marked.
 fn right_marked(rules: &Rules, marks: &[bool; 88], r: usize) -> bool
     requires { r ≤ 96 }
-    ensures yes { result ≡ true → RightMarked rules.now marks.now r }
-    ensures no { result ≡ false → RightMarked rules.now marks.now r → ⊥ }
+    ensures { Decides result (RightMarked rules.now marks.now r) }
 {
-    for d in 0..rules.size[r] as usize {
-        if !marks[rules.right[9 * r + d] as usize] {
-            return false;
-        }
-    }
-    true
+    rules.codes(r).iter().all(|code| marks[*code as usize])
 }
 
 // A rule whose right side is marked and whose left side is not.
 fn lacking(rules: &Rules, marks: &[bool; 88]) -> Option<usize>
     ensures { MatchOption result (NoneLacks rules.now marks.now (rules.now.count + 1)) (λ q. Lacks rules.now marks.now q) }
 {
-    for r in 1..rules.count as usize + 1 {
-        if !marks[rules.left[r] as usize] && right_marked(rules, marks, r) {
-            return Some(r);
-        }
-    }
-    None
-}
-
-// Marks the code.
-fn mark(marks: &mut [bool; 88], code: usize)
-    requires { code < 88 }
-    ensures { marks.new ≡ slice_set marks.old code true }
-{
-    marks[code] = true;
+    (1..rules.count as usize + 1).find(|&r| !marks[rules.left[r] as usize]
+        && right_marked(rules, marks, r))
 }
 
 // The codes from 1 to `words`.
@@ -48,8 +30,8 @@ fn first_codes(words: u8) -> [bool; 88]
     ensures { MarksBelow (words + 1) result }
 {
     let mut marks = [false; 88];
-    for w in 1..words as usize + 1 {
-        mark(&mut marks, w);
+    for (code, mark) in marks.iter_mut().enumerate() {
+        *mark = 1 <= code && code <= words as usize;
     }
     marks
 }
@@ -64,7 +46,7 @@ pub(crate) fn derive_words(rules: &Rules, words: u8) -> [bool; 88]
 {
     let mut marks = first_codes(words);
     while let Some(r) = lacking(rules, &marks) {
-        mark(&mut marks, rules.left[r] as usize);
+        marks[rules.left[r] as usize] = true;
     }
     marks
 }

@@ -1,15 +1,13 @@
-// Rules with exactly their tables.
+// A machine with exactly its tables.
 ghost use Rattle.tables.specs.Held.{Exactly};
 
-use super::rules::Rules;
-use super::states::States;
+use super::machine::Machine;
 use grammar::Action;
 
-// The rules, their numbered states, and the cells by state and word.
+// The cells go by state and word.
 #[derive(Drop)]
 pub struct Full {
-    pub rules: Rules,
-    pub states: States,
+    pub machine: Machine,
     pub cells: [[Option<Action>; 64]; 96],
-    ghost exact: { ∥ Exactly rules states cells ∥₁ },
+    ghost exact: { ∥ Exactly machine.rules machine.states cells ∥₁ },
 }

@@ -1,107 +1,60 @@
 // Reads a rule sheet into arrays, if it is within the limits and all codes are in range.
-ghost use Rattle.std.specs.Prelude.{◌≡◌, suc, ◌+◌, ◌*◌, ◌<◌, ◌≤◌, true, false, length};
-ghost use Rattle.grammar.specs.Grammar.{right_side};
+ghost use Rattle.std.specs.Prelude.{◌≡◌, suc, ◌+◌, ◌≤◌, MatchResult, length};
+ghost use Rattle.grammar.specs.Grammar.{AllCodes, right_side};
 ghost use Rattle.grammar.specs.Outcome.{Within};
 ghost use Rattle.tables.specs.Admitted.{Admitted};
-ghost use Rattle.tables.specs.SheetArrays.{Codes, Counted, Lengths, Measured, or_zero};
+ghost use Rattle.tables.specs.SheetArrays.{Lengths, Measured};
 
 use super::rules::Rules;
 use grammar::Refusal;
 use sheet::RuleSheet;
 
-// What a sheet tells. It tells nothing only where nothing is asked for here.
-fn or_zero(told: Option<u16>) -> u16
-    ensures { result ≡ or_zero told }
-{
-    match told {
-        Some(x) => x,
-        None => 0,
-    }
-}
+// Here a sheet tells nothing only where nothing is asked for, so that what it tells can be read with 0 for nothing.
 
-// Whether the counts are within their limits.
-fn counted<S: RuleSheet>(sheet: &S) -> bool
-    ensures yes { result ≡ true → Counted (S.RuleSheet.meaning sheet.now) }
-    ensures no { result ≡ false → Counted (S.RuleSheet.meaning sheet.now) → ⊥ }
+// The lengths of the right sides by rule, with that of rule 0, of a sheet within the limits.
+fn lengths<S: RuleSheet>(sheet: &S) -> Result<[u8; 97], Refusal>
+    ensures { Measured (S.RuleSheet.meaning sheet.now) result }
 {
     let terminals = sheet.terminals();
     let nonterminals = sheet.nonterminals();
     let rules = sheet.rules();
-    if terminals == 0 || terminals > 63 {
-        return false;
+    if terminals == 0 || nonterminals == 0 || rules == 0 {
+        return Err(Refusal::Limits);
     }
-    if nonterminals == 0 || nonterminals > 24 {
-        return false;
+    if terminals > 63 || nonterminals > 24 || rules > 96 {
+        return Err(Refusal::Limits);
     }
-    1 <= rules && rules <= 96
-}
-
-// Whether a right side can be this long.
-fn short_enough(length: u16) -> bool
-    ensures yes { result ≡ true → length ≤ 8 }
-    ensures no { result ≡ false → 8 < length }
-{
-    length <= 8
-}
-
-// Whether a number is a code of a terminal or a nonterminal, of which `top` is the last.
-fn is_code(code: u16, top: u16) -> bool
-    ensures yes { result ≡ true → (1 ≤ code) × (code ≤ top) }
-    ensures no { result ≡ false → 1 ≤ code → code ≤ top → ⊥ }
-{
-    1 <= code && code <= top
-}
-
-// Whether a number is a code of a nonterminal.
-fn is_nonterminal(code: u16, terminals: u16, top: u16) -> bool
-    ensures yes { result ≡ true → (terminals < code) × (code ≤ top) }
-    ensures no { result ≡ false → terminals < code → code ≤ top → ⊥ }
-{
-    terminals < code && code <= top
-}
-
-// The refusal that tells this rule.
-fn out_of_range(rule: u16) -> Refusal
-    ensures { result ≡ Refusal.Range rule }
-{
-    Refusal::Range { rule }
-}
-
-// The lengths of the right sides by rule, with that of rule 0; none if one is longer than 8.
-fn sizes<S: RuleSheet>(sheet: &S) -> Option<[u8; 97]>
-    requires { Counted (S.RuleSheet.meaning sheet.now) }
-    ensures { Measured (S.RuleSheet.meaning sheet.now) result }
-{
     let mut size = [0; 97];
     size[0] = 1;
-    for rule in 1..sheet.rules() + 1 {
-        let length = or_zero(sheet.length(rule));
-        if !short_enough(length) {
-            return None;
+    // A sheet is asked for its rules by their numbers.
+    for rule in 1..rules + 1 {
+        let length = sheet.length(rule).unwrap_or(0);
+        if length > 8 {
+            return Err(Refusal::Limits);
         }
         size[rule as usize] = length as u8;
     }
-    Some(size)
+    Ok(size)
 }
 
-// Puts the codes of a rule into its places; no if one is not from 1 to `top`.
-fn codes<S: RuleSheet>(sheet: &S, rule: u16, size: u8, top: u16, right: &mut [u8; 873]) -> bool
-    requires rule { (1 ≤ rule) × (rule ≤ 96) }
-    requires size { (size ≡ length (right_side (S.RuleSheet.meaning sheet.now) rule)) × (size ≤ 8) }
+// Writes the codes of a rule; refused if one is not from 1 to `top`.
+fn codes<S: RuleSheet>(sheet: &S, rule: u16, top: u16, right: &mut [u8]) -> Result<(), Refusal>
+    requires rule { 1 ≤ rule }
+    requires size { (length right.old ≡ length (right_side (S.RuleSheet.meaning sheet.now) rule)) × (length right.old ≤ 8) }
     requires top { (top ≡ (S.RuleSheet.meaning sheet.now).terminals + (S.RuleSheet.meaning sheet.now).nonterminals) × (top ≤ 87) }
-    ensures { Codes result (S.RuleSheet.meaning sheet.now) rule right.old right.new }
+    ensures { MatchResult result (λ _. (right.new ≡ right_side (S.RuleSheet.meaning sheet.now) rule) × AllCodes (S.RuleSheet.meaning sheet.now) (right_side (S.RuleSheet.meaning sheet.now) rule)) (λ e. (e ≡ Refusal.Range rule) × (AllCodes (S.RuleSheet.meaning sheet.now) (right_side (S.RuleSheet.meaning sheet.now) rule) → ⊥)) }
 {
-    for place in 0..size as u16 {
-        let code = or_zero(sheet.code(rule, place));
-        if !is_code(code, top) {
-            return false;
+    for (place, held) in right.iter_mut().enumerate() {
+        let code = sheet.code(rule, place as u16).unwrap_or(0);
+        if code == 0 || code > top {
+            return Err(Refusal::Range { rule });
         }
-        right[9 * rule as usize + place as usize] = code as u8;
+        *held = code as u8;
     }
-    true
+    Ok(())
 }
 
-// The rules with these lengths, or the lowest that has a code out of range.
+// The rules with these lengths; refused with the lowest that has a code out of range.
 fn sides<S: RuleSheet>(sheet: &S, size: [u8; 97]) -> Result<Rules, Refusal>
     requires within { Within (S.RuleSheet.meaning sheet.now) }
     requires lengths { Lengths (S.RuleSheet.meaning sheet.now) (suc (length (S.RuleSheet.meaning sheet.now).rules)) size }
@@ -112,15 +65,20 @@ fn sides<S: RuleSheet>(sheet: &S, size: [u8; 97]) -> Result<Rules, Refusal>
     let mut left = [0; 97];
     let mut right = [0; 873];
     right[0] = terminals as u8 + 1;
+    // By rule numbers, as above.
     for rule in 1..sheet.rules() + 1 {
-        let side = or_zero(sheet.left(rule));
-        if !is_nonterminal(side, terminals, top) {
-            return Err(out_of_range(rule));
+        let side = sheet.left(rule).unwrap_or(0);
+        if side <= terminals || side > top {
+            return Err(Refusal::Range { rule });
         }
-        left[rule as usize] = side as u8;
-        if !codes(sheet, rule, size[rule as usize], top, &mut right) {
-            return Err(out_of_range(rule));
-        }
+        let r = rule as usize;
+        left[r] = side as u8;
+        codes(
+            sheet,
+            rule,
+            top,
+            &mut right[9 * r..9 * r + size[r] as usize],
+        )?;
     }
     Ok(Rules {
         terminals: terminals as u8,
@@ -136,11 +94,6 @@ fn sides<S: RuleSheet>(sheet: &S, size: [u8; 97]) -> Result<Rules, Refusal>
 pub(crate) fn read<S: RuleSheet>(sheet: &S) -> Result<Rules, Refusal>
     ensures { Admitted (S.RuleSheet.meaning sheet.now) result }
 {
-    if !counted(sheet) {
-        return Err(Refusal::Limits);
-    }
-    match sizes(sheet) {
-        Some(size) => sides(sheet, size),
-        None => Err(Refusal::Limits),
-    }
+    let size = lengths(sheet)?;
+    sides(sheet, size)
 }

@@ -1,45 +1,43 @@
 // The relation reads: from a transition to those of the state behind it, by nullable nonterminals.
-ghost use Rattle.std.specs.Prelude.{◌≡◌, ◌<◌};
-ghost use Rattle.tables.specs.ReadSteps.{read_to, reads_from};
+ghost use Rattle.std.specs.Prelude.{◌≡◌};
+ghost use Rattle.std.specs.List.{slice_get};
+ghost use Rattle.tables.specs.ReadSteps.{chosen, passes, reads_from};
 
-use super::goto::{behind, goto};
-use super::rules::Rules;
-use super::states::States;
-use gather::{PLACES, Relation};
+use super::machine::Machine;
+use gather::Relation;
 
-// The place of the state and its nonterminal `k` where that is nullable and leads on, and else no place.
-fn read_to(rules: &Rules, states: &States, null: &[bool; 88], state: usize, k: usize) -> usize
-    requires { (state < states.now.count) × (k < rules.now.nonterminals) }
-    ensures { result ≡ read_to rules.now states.now null.now state k }
-{
-    let code = rules.terminals as usize + 1 + k;
-    if null[code] && goto(rules, states, state, code).is_some() {
-        24 * state + k
-    } else {
-        PLACES
+#[derive(Clone, Copy)]
+pub struct Reads<'a> {
+    pub machine: &'a Machine,
+    pub null: &'a [bool; 88],
+}
+
+impl<'a> Reads<'a> {
+    // Whether the nonterminal of this number is nullable and leads on from a state.
+    fn leads_on(&self, state: usize, number: u8) -> bool
+        ensures { result ≡ passes self.now.machine.now.rules self.now.machine.now.states self.now.null.now state number }
+    {
+        let code = usize::from(self.machine.rules.terminals) + 1 + usize::from(number);
+        let null = self.null;
+        null.get(code) == Some(&true) && self.machine.goto(state, code).is_some()
+    }
+
+    // The `k`-th nonterminal, from 0, that is nullable and leads on from a state, by its number.
+    fn number(&self, state: usize, k: usize) -> Option<u8>
+        ensures { result ≡ slice_get (chosen self.now.machine.now.rules self.now.machine.now.states self.now.null.now state) k }
+    {
+        (0..self.machine.rules.nonterminals)
+            .filter(|number| self.leads_on(state, *number))
+            .nth(k)
     }
 }
 
-#[derive(Clone, Copy)]
-pub struct Reads<'a, 'b, 'c> {
-    pub rules: &'a Rules,
-    pub states: &'b States,
-    pub null: &'c [bool; 88],
-}
-
-impl<'a, 'b, 'c> Relation for Reads<'a, 'b, 'c> {
-    ghost targets = { λ s i. reads_from s.rules.now s.states.now s.null.now i };
+impl<'a> Relation for Reads<'a> {
+    ghost targets = { λ s i. reads_from s.machine.now.rules s.machine.now.states s.null.now i };
 
     fn next(&self, place: usize, k: usize) -> Option<usize> {
-        match behind(self.rules, self.states, place) {
-            Some(state) => {
-                if k < self.rules.nonterminals as usize {
-                    Some(read_to(self.rules, self.states, self.null, state, k))
-                } else {
-                    None
-                }
-            }
-            None => None,
-        }
+        let state = self.machine.behind(place)?;
+        let number = self.number(state, k)?;
+        Some(24 * state + usize::from(number))
     }
 }

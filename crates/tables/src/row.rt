@@ -1,10 +1,11 @@
 // The cells of one state as they are filled, by rising rule.
-ghost use Rattle.std.specs.Prelude.{◌≡◌, ◌<◌, ◌≤◌};
+ghost use Rattle.std.specs.Prelude.{◌≡◌, ◌<◌, ◌≤◌, IfErr, IfOk};
 ghost use Rattle.tables.specs.Rows.{entered, reduced};
+ghost use Rattle.tables.specs.declared.conflict.Conflict.{Conflict};
 
 use super::conflict::{Conflict, lowest};
 use gather::WordSet;
-use grammar::Action;
+use grammar::{Action, Refusal};
 
 // By word: the first action of each cell. And the lowest word with two, with its first two.
 #[derive(Clone, Copy)]
@@ -15,19 +16,19 @@ pub struct Row {
 
 impl Row {
     // Enters the reduction by a rule at a word, where nothing else is, or notes the conflict.
-    fn enter(&mut self, word: usize, rule: usize)
-        requires { (word < 64) × (rule ≤ 96) }
+    fn enter(&mut self, word: u8, rule: u8)
+        requires { word < 64 }
         ensures { self.new ≡ entered word rule self.old }
     {
-        match self.cells[word] {
-            None => {
-                self.cells[word] = Some(Action::Reduce(rule as u8));
-            }
+        let second = Action::Reduce(rule);
+        let cell = &mut self.cells[usize::from(word)];
+        match *cell {
+            None => *cell = Some(second),
             Some(first) => {
                 let more = Conflict {
-                    word: word as u8,
+                    word,
                     first,
-                    second: Action::Reduce(rule as u8),
+                    second,
                 };
                 self.conflict = lowest(self.conflict, more);
             }
@@ -35,14 +36,31 @@ impl Row {
     }
 
     // Enters the reduction by a rule at the words of its lookahead below `words`.
-    pub(crate) fn reduce(&mut self, rule: usize, lookahead: WordSet, words: usize)
-        requires { (words ≤ 64) × (rule ≤ 96) }
+    pub(crate) fn reduce(&mut self, rule: u8, lookahead: WordSet, words: u8)
+        requires { words ≤ 64 }
         ensures { self.new ≡ reduced lookahead rule words self.old }
     {
+        // By number: the set is asked by the word, and a conflict tells it.
         for word in 0..words {
-            if lookahead.has(word) {
+            if lookahead.has(usize::from(word)) {
                 self.enter(word, rule);
             }
+        }
+    }
+
+    // The cells, or the conflict, as one of this state.
+    pub(crate) fn settled(self, state: u8) -> Result<[Option<Action>; 64], Refusal>
+        ensures cells { IfOk result (λ cells. (self.conflict ≡ None) × (cells ≡ self.cells)) }
+        ensures conflict { IfErr result (λ e. (k : Conflict) × (self.conflict ≡ Some k) × (e ≡ Refusal.Conflict state k.word k.first k.second)) }
+    {
+        match self.conflict {
+            None => Ok(self.cells),
+            Some(conflict) => Err(Refusal::Conflict {
+                state,
+                word: conflict.word,
+                first: conflict.first,
+                second: conflict.second,
+            }),
         }
     }
 }

@@ -1,7 +1,8 @@
 // The rules of a grammar within the limits and with all codes in range, in fixed arrays.
-ghost use Rattle.std.specs.Prelude.{◌≡◌, ℕ, ◌+◌, ◌*◌, ◌<◌, ◌≤◌, length, slice_index};
+ghost use Rattle.std.specs.Prelude.{◌≡◌, ℕ, ◌+◌, ◌*◌, ◌<◌, ◌≤◌, All, length, slice_index};
 
-// `left` and `size` go by rule. `right` goes by item, 9 * rule + dot: the code behind the dot, 0 at the end. Rule 0 is the start alone.
+// `left` and `size` go by rule. `right` goes by item, 9 * rule + dot: the code behind the dot, 0 at the end, which is the end mark and in no right side. Rule 0 is the start alone.
+// One array of rules would part `right`, which sets of items are set beside, item by item.
 #[derive(Clone, Copy)]
 pub struct Rules {
     pub terminals: u8,
@@ -28,4 +29,17 @@ pub struct Rules {
     ghost below: { (i : ℕ) → slice_index right i ≤ terminals + nonterminals },
     ghost firstsize: { slice_index size 0 ≡ 1 },
     ghost firstcode: { slice_index right 0 ≡ terminals + 1 },
+}
+
+impl Rules {
+    ghost use Rattle.tables.specs.Arrays.{codes_at};
+
+    // The codes on the right of a rule. A rule is asked for by its number, so what reads by one asks that it is a rule's.
+    pub(crate) fn codes(&self, r: usize) -> &[u8]
+        requires { r ≤ 96 }
+        ensures codes { result.now ≡ codes_at self.now r }
+        ensures below { All (λ code. code < 88) result.now }
+    {
+        &self.right[9 * r..9 * r + self.size[r] as usize]
+    }
 }

@@ -1,7 +1,9 @@
 // The numbered states, in fixed arrays.
-ghost use Rattle.std.specs.Prelude.{◌≡◌, ◌≤◌, length};
+ghost use Rattle.std.specs.Prelude.{◌≡◌, ◌≤◌, length, replicate};
 
-// `sets` goes by state, and then by item, 9 * rule + dot. `gotos` goes by 88 * state + code, 255 for nowhere.
+// `sets` goes by state, and then by item, 9 * rule + dot. `gotos` goes by 88 * state + code.
+// Two arrays by number, as the mathematics numbers states: its proofs read sets and gotos as two lists, into which one array of states would have to be taken apart.
+// No option stands for nowhere: any number that is no state's is read as nowhere, by the one test that a goto needs anyway, and 255 is such a number.
 #[derive(Drop)]
 pub struct States {
     pub count: usize,
@@ -10,4 +12,15 @@ pub struct States {
     ghost few: { count ≤ 96 },
     ghost setslength: { length sets ≡ 96 },
     ghost gotoslength: { length gotos ≡ 8448 },
+}
+
+impl States {
+    // No states yet.
+    pub(crate) fn new() -> States {
+        States {
+            count: 0,
+            sets: [[false; 873]; 96],
+            gotos: [0; 8448],
+        }
+    }
 }

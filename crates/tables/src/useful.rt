@@ -1,10 +1,12 @@
 // Nonterminals that are of use: they derive words, and the start uses them.
-ghost use Rattle.std.specs.Prelude.{◌≡◌, ℕ, ◌+◌, ◌≤◌, true, false, MatchOption, slice_index};
+ghost use Rattle.std.specs.Prelude.{◌≡◌, ◌+◌, ◌<◌, ◌≤◌, ◌==◌, Decides, MatchOption};
+ghost use Rattle.std.specs.List.{list_any};
 ghost use Rattle.grammar.specs.Outcome.{LowestUseless};
 ghost use Rattle.tables.specs.AllUseful.{AllUseful};
-ghost use Rattle.tables.specs.Arrays.{grammar_of};
-ghost use Rattle.tables.specs.UsedBy.{Absent, users};
-ghost use Rattle.tables.specs.UsedMarks.{BothBelow, LowestUnmarked, StartYes, UsedMarks};
+ghost use Rattle.tables.specs.Arrays.{codes_at, grammar_of};
+ghost use Rattle.tables.specs.CodeMarks.{Marked};
+ghost use Rattle.tables.specs.UsedBy.{user_by, users};
+ghost use Rattle.tables.specs.UsedMarks.{BothBelow, IsYes, LowestUnmarked, StartYes, UsedMarks};
 
 use super::productive::productive;
 use super::rules::Rules;
@@ -13,27 +15,20 @@ use gather::{Join, Mark, Relation, gather};
 // Whether the code stands on the right of the rule.
 fn stands_in(rules: &Rules, r: usize, code: usize) -> bool
     requires { r ≤ 96 }
-    ensures yes { result ≡ true → Absent rules.now r code → ⊥ }
-    ensures no { result ≡ false → Absent rules.now r code }
+    ensures { result ≡ list_any (λ c. c == code) (codes_at rules.now r) }
 {
-    for d in 0..rules.size[r] as usize {
-        if rules.right[9 * r + d] as usize == code {
-            return true;
-        }
-    }
-    false
+    rules.codes(r).iter().any(|&c| c as usize == code)
 }
 
-// What uses the code by the rule: its left side; 88, which is no code, where the code does not stand on its right.
+// What uses the code by the rule: its left side, where the code stands on its right, and else only the code itself.
 fn user(rules: &Rules, r: usize, code: usize) -> usize
     requires { r ≤ 96 }
-    ensures left { (Absent rules.now r code → ⊥) → result ≡ slice_index rules.now.left r }
-    ensures none { Absent rules.now r code → result ≡ 88 }
+    ensures { result ≡ user_by rules.now code r }
 {
     if stands_in(rules, r, code) {
         rules.left[r] as usize
     } else {
-        88
+        code
     }
 }
 
@@ -59,7 +54,7 @@ fn start_mark(rules: &Rules) -> [Mark; 88]
     ensures { StartYes rules.now result }
 {
     let mut marks = [Mark::NONE; 88];
-    marks[rules.terminals as usize + 1] = Mark::of(true);
+    marks[rules.terminals as usize + 1] = Mark::from(true);
     marks
 }
 
@@ -68,20 +63,26 @@ fn used(rules: &Rules) -> [Mark; 88]
     ensures { UsedMarks (grammar_of rules.now) result }
 {
     let mut marks = start_mark(rules);
-    let _done = gather(&mut marks, &UsedBy { rules });
+    let gathered = gather(&mut marks, &UsedBy { rules });
+    prove!(gathered.is_ok());
     marks
+}
+
+// Whether the code has both marks.
+fn both_marked(productive: &[bool; 88], used: &[Mark; 88], code: u8) -> bool
+    requires { code < 88 }
+    ensures { Decides result (Marked productive.now code × IsYes used.now code) }
+{
+    productive[code as usize] && bool::from(used[code as usize])
 }
 
 // The lowest nonterminal that lacks one of the two marks.
 fn lowest_unmarked(rules: &Rules, productive: &[bool; 88], used: &[Mark; 88]) -> Option<u8>
     ensures { MatchOption result (BothBelow rules.now productive.now used.now (rules.now.terminals + rules.now.nonterminals + 1)) (λ X. LowestUnmarked rules.now productive.now used.now X) }
 {
-    for x in rules.terminals + 1..rules.terminals + rules.nonterminals + 1 {
-        if !productive[x as usize] || !used[x as usize].is_yes() {
-            return Some(x);
-        }
-    }
-    None
+    (rules.terminals + 1..rules.terminals + rules.nonterminals + 1).find(|&code| !both_marked(
+        productive, used, code,
+    ))
 }
 
 // The lowest nonterminal that derives no list of words, or that the start does not use.

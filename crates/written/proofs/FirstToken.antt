@@ -4,6 +4,7 @@ use Rattle.std.specs.List.{prefix_len}
 use Rattle.std.proofs.lemmas.List.{append_assoc, drop-drop, take_at, length-append, length-drop}
 use Rattle.written.specs.Tokens.{Token, name, word, colon, bar, semicolon, spelling, blank, letter, quotable, Bytes, NoLetter, Placed, Laid}
 use Rattle.written.specs.Lexing.{not_quote}
+use Rattle.written.proofs.LeadingBytes.{leading_stops}
 use Rattle.written.proofs.Laying.{Class, a_name, a_word, a_colon, a_bar, a_semicolon, no_letter, leading_each, Stops, each_weaker, quotable_no_quote, Behind, begins, behind, class_here, parts}
 
 is_colon : (t : Token) (b : ℕ) → Class t b → b ≡ 58 → t ≡ colon
@@ -74,7 +75,10 @@ word_end w rest xs p e =
     let size : length (drop 1 xs) ≡ length w + suc (length rest) = ap length inner ∙ length-append w (34 ∷ rest) in
     (ap (prefix_len not_quote) inner ∙ leading_each not_quote w (34 ∷ rest) (each_weaker quotable not_quote quotable_no_quote w p.each) refl, ap (take (length w)) inner ∙ take_at w (34 ∷ rest) (length w) refl, omega arith)
 
-module _ (text : List ℕ) (from at : ℕ) (starts : at ≡ from + prefix_len blank (drop from text)) (ts : List Placed) (l : Laid from ts (drop from text)) (h : at < length text) (dark : blank (get_or text at 0) ≡ false) where
+module _ (text : List ℕ) (from at : ℕ) (starts : at ≡ from + prefix_len blank (drop from text)) (ts : List Placed) (l : Laid from ts (drop from text)) (h : at < length text) where
+  dark : blank (get_or text at 0) ≡ false
+  dark = leading_stops blank text from at starts h
+
   class : Class (begins text from at starts ts l h dark).first (get_or text at 0)
   class = class_here text from at starts ts l h dark
 

@@ -2,12 +2,12 @@ pub mod LeadingBytes
 pub mod Laying
 pub mod FirstToken
 pub mod Indexes
-pub mod Tables
 pub mod Walking
-pub mod Picking
+pub mod Distinct
 pub mod Drafting
 pub mod Overfull
-pub mod PickedSheets
+pub mod KnownTokens
+pub mod SheetHeads
 pub mod TokenBytes
 pub mod ExpectedTokens
 pub mod FormRuns
@@ -20,4 +20,4 @@ pub mod UniqueStatements
 pub mod UniqueFault
 pub mod OneOpening
 pub mod FilledSheets
-pub mod JoinedLists
+pub mod FormFaults

@@ -4,9 +4,9 @@ use Rattle.grammar.specs.Outcome.{Within}
 use Rattle.grammar.specs.Refusals.{Told, told, number}
 use Rattle.grammar.specs.declared.refusal.Refusal.{Refusal}
 use Rattle.written.specs.Tokens.{Placed}
-use Rattle.written.specs.Statements.{Statement, Written, grammar_of, terminals_of, nonterminals_of}
+use Rattle.written.specs.Statements.{Statement, Written, grammar_of}
 use Rattle.written.specs.Form.{WellFormed}
-use Rattle.written.specs.WrittenSheets.{Refused, misplaced, headless, off_limits, Says, headless_place, OneOpening}
+use Rattle.written.specs.WrittenSheets.{Refused, misplaced, headless, off_limits, Says, headless_place, OneOpening, meant}
 use Rattle.written.proofs.UniqueFault.{misplaced_unique}
 use Rattle.written.proofs.UniqueStatements.{written_unique}
 
@@ -51,9 +51,7 @@ module _ (text : List ℕ) where
   refused_alike (off_limits v g out t) (off_limits w h more u) = t ∙ sym u
 
 pub one_opening : OneOpening
-one_opening text (Ok x) (Ok y) G H ws vs hs ks (ss, s, g, w, h) (rs, r, k, v, l) =
-    let same = same_statements text s.written r.written in
-    (tt, g ∙ ap grammar_of same ∙ sym k, w ∙ ap terminals_of same ∙ sym v, h ∙ ap nonterminals_of same ∙ sym l)
-one_opening text (Ok x) (Err f) G H ws vs hs ks (ss, s, g, w, h) (r, k, v, l) = absurd (not_refused text s r)
-one_opening text (Err e) (Ok y) G H ws vs hs ks (s, g, w, h) (rs, r, k, v, l) = absurd (not_refused text r s)
-one_opening text (Err e) (Err f) G H ws vs hs ks (s, g, w, h) (r, k, v, l) = (refused_alike text s r, g ∙ sym k, w ∙ sym v, h ∙ sym l)
+one_opening text (Ok x) (Ok y) c d (ss, s, e) (rs, r, f) = (tt, e ∙ ap meant (same_statements text s.written r.written) ∙ sym f)
+one_opening text (Ok x) (Err f) c d (ss, s, e) (r, g) = absurd (not_refused text s r)
+one_opening text (Err e) (Ok y) c d (s, g) (rs, r, f) = absurd (not_refused text r s)
+one_opening text (Err e) (Err f) c d (s, g) (r, h) = (refused_alike text s r, g ∙ sym h)

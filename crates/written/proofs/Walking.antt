@@ -1,28 +1,29 @@
--- A walk over the tokens of a text, step by step.
-use Rattle.std.proofs.Common.{ℕ, List, [], ◌∷◌, drop, Some, None, subst}
-use Rattle.written.specs.declared.lexer.Found.{Found}
-use Rattle.written.specs.Tokens.{Placed, Laid}
-use Rattle.written.specs.Lexing.{placed_of, Starts}
-use Rattle.written.specs.Walks.{Left}
+-- What walks over the tokens of a text give: all of them, or all that is picked out of them.
+use Rattle.std.proofs.Common.{◌≡◌, ℕ, List, [], ◌∷◌, true, refl, subst}
+use Rattle.std.specs.Iterator.{AlwaysYields}
+use Rattle.std.proofs.lemmas.Iterator.{YieldsList}
+use Rattle.written.specs.TokenWalks.{Ahead, GivesSpelling}
+use Rattle.written.specs.Tokens.{Token, Placed, tokens}
+use Rattle.written.specs.Statements.{words_in}
+use Rattle.written.specs.Walks.{GivesHead, GivesWord, heads_from, heads_in}
+use Rattle.written.specs.declared.heads.Heads.{Heads}
+use Rattle.written.specs.declared.words.Words.{Words}
+use Rattle.written.specs.declared.tokens.Tokens.{Tokens}
 
-module _ (text : List ℕ) where
-  pub left_start : (same : List Placed → List Placed → Type 0) → ((ts : List Placed) → same ts ts) → Left text 0 same
-  left_start same all ts l = (ts, l, all ts)
+module _ {S : Type 0} (walk : S → Tokens) (picked : S → List Token → List (List ℕ)) where
+  always : (ys : List (List ℕ)) (s : S) (ts : List Placed) → Ahead (walk s) ts → picked s (tokens ts) ≡ ys → AlwaysYields (GivesSpelling walk picked) (λ b. b.now) s ys
+  always [] s ts a e = λ x j g. let given = g ts a in let none = given.1 in cc
+  always (y ∷ ys) s ts a e = (
+    (λ j g. let none = g ts a in cc),
+    λ x j g. let given = g ts a in let here = given.1 in (cc, always ys j given.0 given.2 (cc)),
+  )
 
-  -- Behind the token that was found.
-  pub left_more : (at : ℕ) (same next : List Placed → List Placed → Type 0) (f : Found) → ((ts : List Placed) → Laid at ts (drop at text) → Starts text (Some f) ts)
-      → ((ts rest : List Placed) → Laid 0 ts text → same ts (placed_of f.token ∷ rest) → next ts rest) → Left text at same → Left text f.after next
-  left_more at same next f starts onward sofar ts l =
-      let here = sofar ts l in
-      let found = starts here.0 here.1 in
-      (found.0, found.2, onward ts found.0 l (subst (same ts) found.1 here.2))
+  spellings_yielded : (s : S) (ts : List Placed) → Ahead (walk s) ts → YieldsList (GivesSpelling walk picked) (λ b. b.now) s (picked s (tokens ts))
+  spellings_yielded s ts a = record { runs = always (picked s (tokens ts)) s ts a refl }
 
-  -- No token is left.
-  pub left_end : (at : ℕ) (same : List Placed → List Placed → Type 0) → ((ts : List Placed) → Laid at ts (drop at text) → Starts text None ts) → Left text at same
-      → (ts : List Placed) → Laid 0 ts text → same ts []
-  left_end at same starts sofar ts l = let here = sofar ts l in subst (same ts) (starts here.0 here.1) here.2
+-- The words and the heads of a text.
+pub words_yielded : (s : Words) (ts : List Placed) → Ahead s.tokens ts → YieldsList GivesWord (λ b. b.now) s (words_in (tokens ts))
+words_yielded = spellings_yielded (λ s. s.tokens) (λ s ts. words_in ts)
 
-  -- The token that was found is one that is left.
-  pub left_here : (at : ℕ) (same : List Placed → List Placed → Type 0) (f : Found) → ((ts : List Placed) → Laid at ts (drop at text) → Starts text (Some f) ts) → Left text at same
-      → (ts : List Placed) → Laid 0 ts text → (rest : List Placed) × same ts (placed_of f.token ∷ rest)
-  left_here at same f starts sofar ts l = let here = sofar ts l in let found = starts here.0 here.1 in (found.0, subst (same ts) found.1 here.2)
+pub heads_yielded : (s : Heads) (ts : List Placed) → s.between ≡ true → Ahead s.tokens ts → YieldsList GivesHead (λ b. b.now) s (heads_in (tokens ts))
+heads_yielded s ts e a = subst (λ b. YieldsList GivesHead (λ b. b.now) s (heads_from b (tokens ts))) e (spellings_yielded (λ s. s.tokens) (λ s ts. heads_from s.between ts) s ts a)

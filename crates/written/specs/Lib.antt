@@ -3,8 +3,9 @@ pub mod Statements
 pub mod Form
 pub mod Stages
 pub mod Lexing
+pub mod TokenWalks
 pub mod Spelled
-pub mod RuleTables
+pub mod NamesOf
 pub mod Walks
 pub mod Drafts
 pub mod WrittenSheets

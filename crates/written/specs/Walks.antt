@@ -1,32 +1,29 @@
 -- What walks over the tokens of a written sheet find.
-use Rattle.std.specs.Prelude.{◌≡◌, ℕ, ◌<◌, Bool, true, false, cond, not, ◌&&◌, List, [], ◌∷◌, ◌++◌, length, drop, Some, None, Option}
-use Rattle.written.specs.Tokens.{Token, name, word, colon, bar, semicolon, Placed, Laid}
-use Rattle.written.specs.Statements.{member}
+use Rattle.std.specs.Prelude.{ℕ, Bool, true, false, cond, not, List, [], ◌∷◌, Some, None, Option}
+use Rattle.std.specs.Borrow.{Bor}
+use Rattle.written.specs.Tokens.{Token, name, word, colon, bar, semicolon, Placed}
+use Rattle.written.specs.Statements.{member, words_in}
+use Rattle.written.specs.TokenWalks.{GivesSpelling}
+use Rattle.written.specs.declared.heads.Heads.{Heads}
+use Rattle.written.specs.declared.words.Words.{Words}
 
--- Whether a statement may begin behind a token.
-abbrev pub between_after : Bool → Token → Bool
-between_after b (name n) = false
-between_after b (word w) = b
-between_after b colon = b
-between_after b bar = b
-between_after b semicolon = true
+-- The heads among tokens, in text order: the names where a statement may begin, as it may first if b.
+abbrev pub heads_from : Bool → List Token → List (List ℕ)
+heads_from b [] = []
+heads_from b (name n ∷ ts) = cond b (n ∷ heads_from false ts) (heads_from false ts)
+heads_from b (word w ∷ ts) = heads_from b ts
+heads_from b (colon ∷ ts) = heads_from b ts
+heads_from b (bar ∷ ts) = heads_from b ts
+heads_from b (semicolon ∷ ts) = heads_from true ts
 
--- The spelling of a head, a name where a statement begins; or else of a word.
-abbrev pub pick : Bool → Bool → Token → List (List ℕ)
-pick heads b (name n) = cond (heads && b) (n ∷ []) []
-pick heads b (word w) = cond heads [] (w ∷ [])
-pick heads b colon = []
-pick heads b bar = []
-pick heads b semicolon = []
+abbrev pub heads_in : List Token → List (List ℕ)
+heads_in ts = heads_from true ts
 
--- All heads, or all words.
-unfoldable pub picked : Bool → Bool → List Token → List (List ℕ)
-picked heads b [] = []
-picked heads b (t ∷ ts) = pick heads b t ++ picked heads (between_after b t) ts
+abbrev pub GivesHead : Heads → Option (Bor (List ℕ)) → Heads → Type 0
+GivesHead = GivesSpelling (λ s. s.tokens) (λ s ts. heads_from s.between ts)
 
-abbrev pub one_of : Option (List ℕ) → List (List ℕ)
-one_of None = []
-one_of (Some x) = x ∷ []
+abbrev pub GivesWord : Words → Option (Bor (List ℕ)) → Words → Type 0
+GivesWord = GivesSpelling (λ s. s.tokens) (λ s ts. words_in ts)
 
 -- A name that is not among the heads.
 abbrev pub headless : List (List ℕ) → Token → Bool
@@ -37,15 +34,6 @@ headless heads bar = false
 headless heads semicolon = false
 
 -- The place of the first name that is not among the heads.
-unfoldable pub first_headless : List (List ℕ) → List Placed → Option ℕ
+abbrev pub first_headless : List (List ℕ) → List Placed → Option ℕ
 first_headless heads [] = None
 first_headless heads (t ∷ ts) = cond (headless heads t.token) (Some t.place) (first_headless heads ts)
-
--- The spellings were collected, or there are more than 63.
-abbrev pub Collected : Bool → List (List ℕ) → List (List ℕ) → Type 0
-Collected true found all = found ≡ all
-Collected false found all = 63 < length all
-
--- A walk has come to the place `at`: of all tokens and those that are left, `same` holds.
-abbrev pub Left : List ℕ → ℕ → (List Placed → List Placed → Type 0) → Type 0
-Left text at same = (ts : List Placed) → Laid 0 ts text → (rest : List Placed) × Laid at rest (drop at text) × same ts rest

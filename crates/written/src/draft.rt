@@ -1,113 +1,109 @@
 // The rules of a written sheet, read from its tokens.
-ghost use Rattle.written.specs.Drafts.{Read, Stepped, blank_draft, draft_step, drafted, extended, finished, named};
-ghost use Rattle.written.specs.Lexing.{mark_of, placed_of};
-ghost use Rattle.written.specs.Spelled.{spelled};
-ghost use Rattle.written.specs.Statements.{name_code, word_code};
-ghost use Rattle.written.specs.Tokens.{Laid, Placed, tokens};
 ghost use Rattle.std.specs.Prelude.{◌≡◌, ℕ, List};
+ghost use Rattle.written.specs.Drafts.{Extends, Read, Steps, blank_draft, divided, drafted, closed, extended, named};
+ghost use Rattle.written.specs.Lexing.{placed_of};
+ghost use Rattle.written.specs.Spelled.{spelled};
+ghost use Rattle.written.specs.Tokens.{Laid, Placed, tokens};
 
-use super::lexer::{Mark, Token, next_token};
-use super::rule_table::RuleTable;
-use super::short_rule::ShortRule;
-use super::spellings::Spellings;
+use super::lexer::{Mark, Token};
+use super::names::Names;
+use super::tokens::Tokens;
+use bounded::{BoundedList, Full};
+use grammar::Refusal;
+use sheet::ShortRule;
 
-// The rules read so far, the one that is being read, and whether a statement may begin.
+// Up to 96 rules.
+pub type Rules = BoundedList<ShortRule, 96>;
+
+// The rules read so far, and the one that is being read, none between statements.
 #[derive(Clone, Copy)]
-pub struct Draft {
-    pub between: bool,
-    pub rule: ShortRule,
-    pub table: RuleTable,
-}
-
-fn name_code(words: &Spellings<'_>, heads: &Spellings<'_>, name: &[u8]) -> u16
-    ensures { result ≡ name_code (spelled words.now) (spelled heads.now) name.now }
-{
-    words.count() as u16 + 1 + heads.find(name) as u16
-}
-
-fn word_code(words: &Spellings<'_>, heads: &Spellings<'_>, word: &[u8]) -> u16
-    ensures { result ≡ word_code (spelled words.now) (spelled heads.now) word.now }
-{
-    1 + words.find(word) as u16
+struct Draft {
+    rule: Option<ShortRule>,
+    rules: Rules,
 }
 
 impl Draft {
     // No rule yet.
-    pub(crate) fn new() -> Draft
+    fn new() -> Draft
         ensures { drafted result ≡ blank_draft }
     {
         Draft {
-            between: true,
-            rule: ShortRule::new(0),
-            table: RuleTable::new(),
+            rule: None,
+            rules: BoundedList::new(ShortRule::new(0)),
         }
     }
 
     // One more code on the right of the rule that is being read.
-    fn extend(&mut self, code: u16) -> bool
-        ensures { Stepped result (drafted self.new) (extended (drafted self.old) code) }
+    fn extend(&mut self, code: u16) -> Result<(), Full>
+        ensures { Extends result (drafted self.new) (extended (drafted self.old) code) }
     {
-        self.rule.push(code)
-    }
-
-    // The rule that is being read ends.
-    fn finish(&mut self, between: bool) -> bool
-        ensures { Stepped result (drafted self.new) (finished between (drafted self.old)) }
-    {
-        let rule = self.rule;
-        if !self.table.push(rule) {
-            return false;
+        if let Some(rule) = &mut self.rule {
+            rule.push(code)?;
         }
-        self.rule = ShortRule::new(rule.left());
-        self.between = between;
-        true
+        Ok(())
     }
 
     // A name heads a statement, or stands on a right side.
-    fn take_name(&mut self, code: u16) -> bool
-        ensures { Stepped result (drafted self.new) (named (drafted self.old) code) }
+    fn name(&mut self, code: u16) -> Result<(), Full>
+        ensures { Extends result (drafted self.new) (named (drafted self.old) code) }
     {
-        if !self.between {
+        if self.rule.is_some() {
             return self.extend(code);
         }
-        self.rule.set_left(code);
-        self.between = false;
-        true
+        self.rule = Some(ShortRule::new(code));
+        Ok(())
     }
 
-    fn take_mark(&mut self, mark: Mark) -> bool
-        ensures { (terminals nonterminals : List (List ℕ)) → Stepped result (drafted self.new) (draft_step terminals nonterminals (drafted self.old) (mark_of mark)) }
+    // The rule that is being read ends, and another with its left side begins.
+    fn divide(&mut self) -> Result<(), Full>
+        ensures { Extends result (drafted self.new) (divided (drafted self.old)) }
     {
-        match mark {
-            Mark::Colon => true,
-            Mark::Bar => self.finish(self.between),
-            Mark::Semicolon => self.finish(true),
+        if let Some(rule) = self.rule {
+            self.rules.push(rule)?;
+            self.rule = Some(ShortRule::new(rule.left()));
         }
+        Ok(())
     }
 
-    // Takes a token in; false where it is a ninth code or ends a 97th rule.
-    fn take(&mut self, words: &Spellings<'_>, heads: &Spellings<'_>, token: Token<'_>) -> bool
-        ensures { Stepped result (drafted self.new) (draft_step (spelled words.now) (spelled heads.now) (drafted self.old) (placed_of token.entry).token) }
+    // The rule that is being read ends, and with it the statement.
+    fn close(&mut self) -> Result<(), Full>
+        ensures { Extends result (drafted self.new) (closed (drafted self.old)) }
     {
-        match token {
-            Token::Name(_, name) => self.take_name(name_code(words, heads, name)),
-            Token::Word(_, word) => self.extend(word_code(words, heads, word)),
-            Token::Mark(_, mark) => self.take_mark(mark),
+        if let Some(rule) = self.rule {
+            self.rules.push(rule)?;
+            self.rule = None;
         }
+        Ok(())
     }
 
-    // Takes all tokens of a text in; false where a right side has a ninth code or there is a 97th rule.
-    pub(crate) fn read(&mut self, text: &[u8], words: &Spellings<'_>, heads: &Spellings<'_>) -> bool
-        ensures { (ts : List Placed) → Laid 0 ts text.now → Read result (spelled words.now) (spelled heads.now) (drafted self.new) (tokens ts) }
+    // Takes a token in. Refused where it is a ninth code, ends a 97th rule or has no code.
+    fn take(&mut self, names: &Names<'_>, token: Token<'_>) -> Result<(), Refusal>
+        ensures { Steps result (spelled names.now.words) (spelled names.now.heads) (drafted self.old) (placed_of token.entry).token (drafted self.new) }
     {
-        *self = Draft::new();
-        let mut at = 0;
-        while let Some(found) = next_token(text, at) {
-            if !self.take(words, heads, found.token) {
-                return false;
+        let taken = match token {
+            Token::Name(place, name) => {
+                let code = names.name_code(name).ok_or(Refusal::Form { place })?;
+                self.name(code)
             }
-            at = found.after;
-        }
-        true
+            Token::Word(place, word) => {
+                let code = names.word_code(word).ok_or(Refusal::Form { place })?;
+                self.extend(code)
+            }
+            Token::Mark(_, Mark::Colon) => Ok(()),
+            Token::Mark(_, Mark::Bar) => self.divide(),
+            Token::Mark(_, Mark::Semicolon) => self.close(),
+        };
+        taken.map_err(|_| Refusal::Limits)
     }
+}
+
+// The rules of a text, whose names and words have these codes.
+pub(crate) fn read_rules(text: &[u8], names: &Names<'_>) -> Result<Rules, Refusal>
+    ensures { (ts : List Placed) → Laid 0 ts text.now → Read result (spelled names.now.words) (spelled names.now.heads) (tokens ts) }
+{
+    let mut draft = Draft::new();
+    for token in Tokens::new(text) {
+        draft.take(names, token)?;
+    }
+    Ok(draft.rules)
 }

@@ -1,7 +1,7 @@
 // The form of a written sheet: the first byte that cannot stand where it does.
 ghost use Rattle.written.specs.Form.{Misplaced, WellFormed};
 ghost use Rattle.written.specs.Stages.{next};
-ghost use Rattle.std.specs.Prelude.{◌≡◌, MatchOption};
+ghost use Rattle.std.specs.Prelude.{◌≡◌, ◌+◌, MatchOption, cond, nat_lt};
 
 // The most letters in a name, and the most bytes in a word.
 const LONGEST: u8 = 24;
@@ -23,81 +23,35 @@ enum Stage {
     Word(u8),
 }
 
-// The stage behind one more byte, where that byte can stand: from each stage, then from any.
-fn between(byte: u8) -> Option<Stage>
-    ensures { result ≡ next Stage.Between byte }
+// One more letter or byte of a token, if it is not the 25th.
+fn longer(count: u8) -> Option<u8>
+    ensures { result ≡ cond (nat_lt count 24) (Some (count + 1)) None }
 {
-    match byte as char {
-        ' ' | '\n' => Some(Stage::Between),
-        'a'..='z' | 'A'..='Z' => Some(Stage::Head(1)),
-        _ => None,
+    if count < LONGEST {
+        return Some(count + 1);
     }
+    None
 }
 
-fn headed(byte: u8) -> Option<Stage>
-    ensures { result ≡ next Stage.Headed byte }
-{
-    match byte as char {
-        ' ' | '\n' => Some(Stage::Headed),
-        ':' => Some(Stage::Body),
-        _ => None,
-    }
-}
-
-fn head(letters: u8, byte: u8) -> Option<Stage>
-    ensures { result ≡ next (Stage.Head letters) byte }
-{
-    match byte as char {
-        'a'..='z' | 'A'..='Z' if letters < LONGEST => Some(Stage::Head(letters + 1)),
-        'a'..='z' | 'A'..='Z' => None,
-        _ => headed(byte),
-    }
-}
-
-fn body(byte: u8) -> Option<Stage>
-    ensures { result ≡ next Stage.Body byte }
-{
-    match byte as char {
-        ' ' | '\n' => Some(Stage::Body),
-        'a'..='z' | 'A'..='Z' => Some(Stage::Name(1)),
-        '"' => Some(Stage::Word(0)),
-        '|' => Some(Stage::Body),
-        ';' => Some(Stage::Between),
-        _ => None,
-    }
-}
-
-fn name(letters: u8, byte: u8) -> Option<Stage>
-    ensures { result ≡ next (Stage.Name letters) byte }
-{
-    match byte as char {
-        'a'..='z' | 'A'..='Z' if letters < LONGEST => Some(Stage::Name(letters + 1)),
-        'a'..='z' | 'A'..='Z' => None,
-        _ => body(byte),
-    }
-}
-
-fn word(bytes: u8, byte: u8) -> Option<Stage>
-    ensures { result ≡ next (Stage.Word bytes) byte }
-{
-    match byte as char {
-        '"' if bytes > 0 => Some(Stage::Body),
-        '"' => None,
-        '!'..='~' if bytes < LONGEST => Some(Stage::Word(bytes + 1)),
-        _ => None,
-    }
-}
-
+// The stage behind one more byte, where that byte can stand.
 fn step(stage: Stage, byte: u8) -> Option<Stage>
     ensures { result ≡ next stage byte }
 {
-    match stage {
-        Stage::Between => between(byte),
-        Stage::Head(letters) => head(letters, byte),
-        Stage::Headed => headed(byte),
-        Stage::Body => body(byte),
-        Stage::Name(letters) => name(letters, byte),
-        Stage::Word(bytes) => word(bytes, byte),
+    match (stage, byte as char) {
+        (Stage::Between, ' ' | '\n') => Some(Stage::Between),
+        (Stage::Between, 'a'..='z' | 'A'..='Z') => Some(Stage::Head(1)),
+        (Stage::Head(letters), 'a'..='z' | 'A'..='Z') => Some(Stage::Head(longer(letters)?)),
+        (Stage::Head(_) | Stage::Headed, ' ' | '\n') => Some(Stage::Headed),
+        (Stage::Head(_) | Stage::Headed, ':') => Some(Stage::Body),
+        (Stage::Body, 'a'..='z' | 'A'..='Z') => Some(Stage::Name(1)),
+        (Stage::Name(letters), 'a'..='z' | 'A'..='Z') => Some(Stage::Name(longer(letters)?)),
+        (Stage::Body | Stage::Name(_), ' ' | '\n' | '|') => Some(Stage::Body),
+        (Stage::Body | Stage::Name(_), '"') => Some(Stage::Word(0)),
+        (Stage::Body | Stage::Name(_), ';') => Some(Stage::Between),
+        (Stage::Word(bytes), '"') if bytes > 0 => Some(Stage::Body),
+        (Stage::Word(_), '"') => None,
+        (Stage::Word(bytes), '!'..='~') => Some(Stage::Word(longer(bytes)?)),
+        _ => None,
     }
 }
 

@@ -1,6 +1,6 @@
 // The tokens of a written sheet, as parts of its text.
-ghost use Rattle.std.specs.Prelude.{◌≡◌, ℕ, ◌+◌, ◌<◌, ◌≤◌, false, List, length, drop, IfSome, slice_index};
-ghost use Rattle.written.specs.Lexing.{Starts, not_quote};
+ghost use Rattle.std.specs.Prelude.{◌≡◌, ℕ, Bool, ◌+◌, ◌<◌, ◌≤◌, List, length, drop, IfSome};
+ghost use Rattle.written.specs.Lexing.{Starts};
 ghost use Rattle.written.specs.Tokens.{Laid, Placed, blank, letter};
 ghost use Rattle.std.specs.List.{prefix_len};
 
@@ -29,59 +29,23 @@ pub struct Found<'a> {
 fn is_blank(b: u8) -> bool
     ensures { result ≡ blank b }
 {
-    match b as char {
-        ' ' | '\n' => true,
-        _ => false,
-    }
+    matches!(b as char, ' ' | '\n')
 }
 
 fn is_letter(b: u8) -> bool
     ensures { result ≡ letter b }
 {
-    match b as char {
-        'a'..='z' | 'A'..='Z' => true,
-        _ => false,
-    }
+    matches!(b as char, 'a'..='z' | 'A'..='Z')
 }
 
-// The first place from `from` on that holds no blank.
-fn past_blanks(text: &[u8], from: usize) -> usize
-    requires { from ≤ length text.now }
-    ensures value { result ≡ from + prefix_len blank (drop from text.now) }
+// The first place from `from` on whose byte does not pass.
+fn past<F: Fn(u8) -> bool>(text: &[u8], from: usize, passes: F) -> usize
+    requires start { from ≤ length text.now }
+    requires callable { F.IsAlwaysCallable passes }
     ensures within { (from ≤ result) × (result ≤ length text.now) }
-    ensures stops { result < length text.now → blank (slice_index text.now result) ≡ false }
+    ensures value { (p : ℕ → Bool) → ((b : ℕ) (r : Bool) → F.post passes b r → r ≡ p b) → result ≡ from + prefix_len p (drop from text.now) }
 {
-    let mut at = from;
-    while at < text.len() && is_blank(text[at]) {
-        at += 1;
-    }
-    at
-}
-
-// The first place from `from` on that holds no letter.
-fn past_letters(text: &[u8], from: usize) -> usize
-    requires { from ≤ length text.now }
-    ensures value { result ≡ from + prefix_len letter (drop from text.now) }
-    ensures within { (from ≤ result) × (result ≤ length text.now) }
-{
-    let mut at = from;
-    while at < text.len() && is_letter(text[at]) {
-        at += 1;
-    }
-    at
-}
-
-// The first place from `from` on that holds a quote.
-fn closing(text: &[u8], from: usize) -> usize
-    requires { from ≤ length text.now }
-    ensures value { result ≡ from + prefix_len not_quote (drop from text.now) }
-    ensures within { (from ≤ result) × (result ≤ length text.now) }
-{
-    let mut at = from;
-    while at < text.len() && text[at] != b'"' {
-        at += 1;
-    }
-    at
+    from + text[from..].iter().take_while(|b| passes(**b)).count()
 }
 
 // The first token of the text from `from` on, none at its end; of a text that holds other things, whatever looks like one.
@@ -90,7 +54,7 @@ pub(crate) fn next_token<'a>(text: &'a [u8], from: usize) -> Option<Found<'a>>
     ensures starts { (ts : List Placed) → Laid from ts (drop from text.now) → Starts text.now result ts }
     ensures onward { IfSome result (λ f. (from < f.after) × (f.after ≤ length text.now)) }
 {
-    let at = past_blanks(text, from);
+    let at = past(text, from, is_blank);
     if at >= text.len() {
         return None;
     }
@@ -108,7 +72,7 @@ pub(crate) fn next_token<'a>(text: &'a [u8], from: usize) -> Option<Found<'a>>
             after: at + 1,
         }),
         '"' => {
-            let end = closing(text, at + 1);
+            let end = past(text, at + 1, |b| b != b'"');
             if end >= text.len() {
                 return None;
             }
@@ -118,7 +82,7 @@ pub(crate) fn next_token<'a>(text: &'a [u8], from: usize) -> Option<Found<'a>>
             })
         }
         'a'..='z' | 'A'..='Z' => {
-            let end = past_letters(text, at + 1);
+            let end = past(text, at + 1, is_letter);
             Some(Found {
                 token: Token::Name(at, &text[at..end]),
                 after: end,

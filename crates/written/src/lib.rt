@@ -3,11 +3,13 @@
 
 mod draft;
 mod form;
+mod headless;
+mod heads;
 mod lexer;
-mod rule_table;
-mod short_rule;
+mod names;
 mod spellings;
-mod walk;
+mod tokens;
+mod words;
 mod written;
 
 pub use written::{WrittenSheet, one_opening};

@@ -1,134 +1,93 @@
 // A sheet that is written as text.
-ghost use Rattle.grammar.specs.Grammar.{nothing};
 ghost use Rattle.sheet.specs.Readings.{rule_told};
-ghost use Rattle.std.specs.Prelude.{◌≡◌, ℕ, List, [], Decides};
-ghost use Rattle.written.specs.RuleTables.{short_rule_of};
-ghost use Rattle.written.specs.Spelled.{bytes_of, spelled};
-ghost use Rattle.written.specs.Statements.{Statement, Written};
-ghost use Rattle.written.specs.Tokens.{Placed};
-ghost use Rattle.written.specs.WrittenSheets.{CountsWithin, Filled, OneOpening, Opened, Taken, spelling_told, word_code_told, written_grammar};
+ghost use Rattle.grammar.specs.declared.refusal.Refusal.TheVariants.{Form};
+ghost use Rattle.std.specs.Prelude.{◌≡◌, MatchOption};
+ghost use Rattle.written.specs.NamesOf.{spelling_told, word_code_told};
+ghost use Rattle.std.specs.Option.{option_map};
+ghost use Rattle.sheet.specs.ShortRules.{rule_of};
+ghost use Rattle.written.specs.Spelled.{bytes_of};
+ghost use Rattle.written.specs.WrittenSheets.{Headed, OneOpening, Opened, Reads, Refused, contents, empty, written_grammar};
 
-use super::draft::Draft;
+use super::draft::{Rules, read_rules};
 use super::form::misplaced;
-use super::rule_table::RuleTable;
-use super::short_rule::ShortRule;
-use super::spellings::Spellings;
-use super::spellings::noting::spelling_across;
-use super::walk::{collect, first_headless};
+use super::headless::first_headless;
+use super::names::Names;
+use bounded::BoundedList;
 use grammar::Refusal;
-use sheet::RuleSheet;
+use sheet::{RuleSheet, ShortRule};
 
-// The rules that a text says, and the spellings of its words and heads, as parts of the text.
+// What a text says: the spellings of its words and heads, as parts of the text, and its rules.
 #[derive(Clone, Copy)]
 pub struct WrittenSheet<'a> {
-    words: Spellings<'a>,
-    heads: Spellings<'a>,
-    table: RuleTable,
+    names: Names<'a>,
+    rules: Rules,
 }
 
-// Whether there are enough words and heads, and not too many heads.
-fn counts_within(words: usize, heads: usize) -> bool
-    ensures { Decides result (CountsWithin words heads) }
+// The first byte that cannot stand where it does, or else the place of the first name that heads nothing.
+fn form_fault(text: &[u8]) -> Option<usize>
+    ensures { MatchOption result (Headed text.now) (λ place. Refused text.now (Form place)) }
 {
-    words >= 1 && heads >= 1 && heads <= 24
+    misplaced(text).or_else(|| first_headless(text))
 }
 
 impl<'a> WrittenSheet<'a> {
     // A sheet with counts 0 and no rule.
     pub fn new() -> WrittenSheet<'a>
-        ensures meaning { written_grammar result ≡ nothing }
-        ensures words { spelled result.words ≡ [] }
-        ensures heads { spelled result.heads ≡ [] }
+        ensures { contents result ≡ empty }
     {
         WrittenSheet {
-            words: Spellings::new(),
-            heads: Spellings::new(),
-            table: RuleTable::new(),
+            names: Names::new(),
+            rules: BoundedList::new(ShortRule::new(0)),
         }
     }
 
-    // Takes the rules of a text of right form in; false where a count or a length is outside its limits.
-    fn fill(&mut self, text: &'a [u8]) -> bool
-        ensures { (ts : List Placed) (ss : List Statement) → Written text.now ts ss → Filled result (written_grammar self.new) (spelled self.new.words) (spelled self.new.heads) ss }
+    // The sheet that a text says. Its form is looked at first, then its names, then the limits.
+    fn read(text: &'a [u8]) -> Result<WrittenSheet<'a>, Refusal>
+        ensures { Reads text.now result }
     {
-        if !collect(text, false, &mut self.words) {
-            return false;
-        }
-        if !collect(text, true, &mut self.heads) {
-            return false;
-        }
-        let words = self.words.count();
-        let heads = self.heads.count();
-        if !counts_within(words, heads) {
-            return false;
-        }
-        let mut draft = Draft::new();
-        if !draft.read(text, &self.words, &self.heads) {
-            return false;
-        }
-        let rules = draft.table.count();
-        if rules == 0 {
-            return false;
-        }
-        self.table = draft.table;
-        true
-    }
-
-    // Takes a text in: its form is looked at first, then its names, then the limits. Refused, the sheet holds what it holds.
-    fn take(&mut self, text: &'a [u8]) -> Result<(), Refusal>
-        ensures { Taken text.now result (written_grammar self.new) (spelled self.new.words) (spelled self.new.heads) }
-    {
-        if let Some(place) = misplaced(text) {
+        if let Some(place) = form_fault(text) {
             return Err(Refusal::Form { place });
         }
-        if let Some(place) = first_headless(text) {
-            return Err(Refusal::Form { place });
+        let names = Names::of(text).map_err(|_| Refusal::Limits)?;
+        if !names.counts_within() {
+            return Err(Refusal::Limits);
         }
-        if self.fill(text) {
-            return Ok(());
+        let rules = read_rules(text, &names)?;
+        if rules.is_empty() {
+            return Err(Refusal::Limits);
         }
-        Err(Refusal::Limits)
+        Ok(WrittenSheet { names, rules })
     }
 
     // Opens a text; refused, the sheet has counts 0 and no rule.
     pub fn open(&mut self, text: &'a [u8]) -> Result<(), Refusal>
-        ensures { Opened text.now result (written_grammar self.new) (spelled self.new.words) (spelled self.new.heads) }
+        ensures { Opened text.entry.now result (contents self.new) }
     {
-        match self.take(text) {
-            Ok(()) => Ok(()),
-            Err(refusal) => {
-                *self = WrittenSheet::new();
-                Err(refusal)
-            }
-        }
+        *self = WrittenSheet::new();
+        *self = WrittenSheet::read(text)?;
+        Ok(())
     }
 
     // The code of a word, by its spelling without quotes.
     pub fn word_code(&self, spelling: &[u8]) -> Option<u16>
-        ensures { result ≡ word_code_told (spelled self.now.words) spelling.now }
+        ensures { result ≡ word_code_told (contents self.now).words spelling.now }
     {
-        let at = self.words.place(spelling)?;
-        Some(1 + at as u16)
+        self.names.word_code(spelling)
     }
 
     // The spelling of a code: of a word without its quotes, or of a head.
     pub fn spelling(&self, code: u16) -> Option<&'a [u8]>
-        ensures { bytes_of result ≡ spelling_told (spelled self.now.words) (spelled self.now.heads) code }
+        ensures { bytes_of result ≡ spelling_told (contents self.now).words (contents self.now).heads code }
     {
-        if code == 0 {
-            return None;
-        }
-        spelling_across(&self.words, &self.heads, code as usize - 1)
+        self.names.spelling(code)
     }
 
     // The rule with a number, from 1.
     fn numbered(&self, rule: u16) -> Option<ShortRule>
-        ensures { short_rule_of result ≡ rule_told (written_grammar self.now) rule }
+        ensures { option_map rule_of result ≡ rule_told (written_grammar self.now) rule }
     {
-        if rule == 0 {
-            return None;
-        }
-        self.table.rule(rule as usize - 1)
+        let at = rule.checked_sub(1)?;
+        self.rules.get(at as usize)
     }
 }
 
@@ -136,17 +95,18 @@ impl<'a> RuleSheet for WrittenSheet<'a> {
     ghost meaning = { written_grammar };
 
     fn terminals(&self) -> u16 {
-        self.words.count() as u16
+        self.names.words()
     }
 
     fn nonterminals(&self) -> u16 {
-        self.heads.count() as u16
+        self.names.heads()
     }
 
     fn rules(&self) -> u16 {
-        self.table.count()
+        self.rules.len() as u16
     }
 
+    // One reading each, since each asks the rule that was found for something else.
     fn left(&self, rule: u16) -> Option<u16> {
         let found = self.numbered(rule)?;
         Some(found.left())

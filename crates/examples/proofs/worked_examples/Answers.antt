@@ -1,6 +1,5 @@
-use Rattle.std.proofs.Common.{refl}
 use Rattle.examples.proofs.worked_examples.Goals as goal
 use Rattle.examples.proofs.Shown.{worked}
 
-pub returns : goal.returns
-returns c = record { answer = refl; worked = worked }
+pub returns-clause-worked : goal.returns-clause-worked
+returns-clause-worked c = worked

@@ -1,17 +1,24 @@
-use Rattle.std.proofs.Common.{◌+◌, arith}
+use Rattle.std.proofs.Common.{◌+◌, sym, ◌∙◌, arith}
 use Rattle.sheet.specs.Packing.Off.{lowest}
-use Rattle.sheet.proofs.OffLayout.{all_lie, not_lying, told_at}
+use Rattle.sheet.proofs.OffLayout.{all_lie, contents_at, contents_length, not_lying, refused_at}
 use Rattle.sheet.proofs.Packings.{lies_more}
 use Rattle.sheet.proofs.packed.bodies_end.Goals as goal
 
 pub returns-in_default : goal.returns-in_default
-returns-in_default c = (
-  c.loop-rule-test.true,
-  told_at c.args.numbers.now (c.loop-rule.rule + 1) (lowest c.requires.listed (omega arith) c.loop-rule.invariant.2 (not_lying c.args.numbers.now c.loop-rule.rule c.loop-rule.at c.loop-rule.invariant.0 c.in_default.ensures)),
-)
+returns-in_default c =
+    let ns = c.args.numbers.now in
+    let long = contents_length ns c.args.contents.now c.requires.listed c.requires.contents in
+    let place = contents_at ns c.args.contents.now c.requires.listed c.requires.contents c.loop-rule.rule c.loop-rule-test.true in
+    refused_at ns (c.loop-rule.rule + 1)
+    (lowest c.requires.listed (omega (arith, long, c.loop-rule-test.true)) c.loop-rule.invariant.2 (not_lying ns c.loop-rule.rule c.loop-rule.at c.loop-rule.invariant.0 (λ e. c.in_default.ensures (place ∙ e))))
 
 pub loop-rule-preserved : goal.loop-rule-preserved
-loop-rule-preserved c = lies_more c.args.numbers.now c.loop-rule.rule c.loop-rule.at c.in-Some.end c.loop-rule.invariant c.in-Some.ensures
+loop-rule-preserved c =
+    let place = contents_at c.args.numbers.now c.args.contents.now c.requires.listed c.requires.contents c.loop-rule.rule c.loop-rule-test.true in
+    let body = c.in-Some.ensures in
+    lies_more c.args.numbers.now c.loop-rule.rule c.loop-rule.at c.in-Some.end c.loop-rule.invariant (sym place ∙ body.0, body.1, body.2)
 
 pub returns : goal.returns
-returns c = all_lie c.args.numbers.now c.args.rules c.loop-rule.rule c.loop-rule.at c.requires.listed c.requires.stated (omega arith) c.loop-rule.invariant.0 c.loop-rule.invariant.1 c.loop-rule.invariant.2
+returns c =
+    let long = contents_length c.args.numbers.now c.args.contents.now c.requires.listed c.requires.contents in
+    all_lie c.args.numbers.now c.loop-rule.rule c.loop-rule.at c.requires.listed (omega (arith, long, c.loop-rule-test.false)) c.loop-rule.invariant.0 c.loop-rule.invariant.1 c.loop-rule.invariant.2

@@ -1,19 +1,20 @@
-use Rattle.std.proofs.Common.{ap, ◌∙◌, subst, arith}
-use Rattle.sheet.specs.Packing.{ends, packed}
-use Rattle.sheet.specs.Packs.{Front}
-use Rattle.sheet.proofs.Fronts.{front_on}
-use Rattle.sheet.proofs.Numbers.{end_up}
-use Rattle.sheet.proofs.Packings.{packed_full}
+use Rattle.std.proofs.Common.{◌++◌, length, sym, ap, ◌∙◌, ap₂, arith}
+use Rattle.std.proofs.lemmas.Slice.{take-put_mid}
+use Rattle.sheet.proofs.Packs.{begins_more, bodies_more, bodies_within}
 use Rattle.sheet.proofs.packing.put_bodies.Goals as goal
+
+pub slice_bounds-put_body-end : goal.slice_bounds-put_body-end
+slice_bounds-put_body-end g c = omega (arith, bodies_within (g.S.RuleSheet.meaning c.args.sheet.now) c.loop-i.i (omega arith), c.loop-i.invariant.0)
 
 pub loop-i-preserved : goal.loop-i-preserved
 loop-i-preserved g c =
-    let G = g.S.RuleSheet.meaning c.args.sheet.now in (
-      c.put_body-at.ensures.end,
-      front_on (packed G) c.args.out.now c.loop-i.at c.loop-i.out c.put_body-at.result c.put_body-at.new.out c.loop-i.invariant.1 (omega (arith, end_up G c.loop-i.i (omega arith))) c.put_body-at.ensures.front,
-    )
-
-pub returns : goal.returns
-returns g c =
     let G = g.S.RuleSheet.meaning c.args.sheet.now in
-    subst (λ n. Front (packed G) c.args.out.now n c.loop-i.out) (c.loop-i.invariant.0 ∙ ap (ends (packed G)) (omega arith) ∙ packed_full G) c.loop-i.invariant.1
+    let inv = c.loop-i.invariant in
+    let inside = bodies_within G c.loop-i.i (omega arith) in
+    let more = begins_more G c.loop-i.i (omega arith) in
+    let written = ap length c.put_body.ensures in (
+      omega (arith, more, inv.0),
+      take-put_mid c.loop-i.at _ c.loop-i.out c.put_body.new.out _ (omega (arith, written)) (omega (arith, inside, inv.0))
+          ∙ ap₂ (λ xs ys. xs ++ ys) inv.1 c.put_body.ensures
+          ∙ sym (bodies_more G c.loop-i.i (omega arith)),
+    )

@@ -1,7 +1,6 @@
-use Rattle.std.proofs.Common.{◌≡◌}
-use Rattle.sheet.specs.Packing.{ends, packed}
-use Rattle.sheet.specs.Packs.{Front}
+use Rattle.std.proofs.Common.{◌≡◌, length, take}
+use Rattle.sheet.specs.Packing.{bodies}
 use Rattle.sheet.proofs.packing.put_bodies.Given as goal
 
 abbrev pub invariant-loop-i : goal.invariant-loop-i
-invariant-loop-i g l = (l.at ≡ ends (packed (g.S.RuleSheet.meaning l.sheet)) l.i) × Front (packed (g.S.RuleSheet.meaning l.sheet)) l.initial.out l.at l.out
+invariant-loop-i g l = (l.at ≡ length (bodies (take l.i (g.S.RuleSheet.meaning l.sheet).rules))) × (take l.at l.out ≡ bodies (take l.i (g.S.RuleSheet.meaning l.sheet).rules))

@@ -1,21 +1,42 @@
-use Rattle.std.proofs.Common.{◌≡◌, subst, arith}
+use Rattle.std.proofs.Common.{◌≡◌, ◌+◌, ◌<◌, ◌++◌, length, drop, set, sym, ◌∙◌, subst, arith}
+use Rattle.std.proofs.lemmas.List.{length-set, length-take-le, set-append_left, take-append-drop}
+use Rattle.std.proofs.lemmas.Result.{err_from_is_err_and}
 use Rattle.tables.specs.Cells.{RowsUpto}
-use Rattle.tables.proofs.FilledCells.{rows_none, rows_more, rows_all, first_conflict}
+use Rattle.tables.proofs.FilledCells.{blank, blank_length, rows_none, rows_more, rows_all, first_conflict}
 use Rattle.tables.proofs.cells.fill.Goals as goal
 
 pub loop-state-init : goal.loop-state-init
-loop-state-init c = rows_none c.args.rules.now c.args.states.now
+loop-state-init c =
+    let m = c.args.machine.now in
+    let n = m.states.count in
+    (length-take-le n blank (omega (arith, blank_length, m.states.few)), subst (λ l. RowsUpto m.rules m.states 0 l) (sym (take-append-drop n blank)) (rows_none m.rules m.states))
 
 pub loop-state-preserved : goal.loop-state-preserved
 loop-state-preserved c =
-    rows_more c.args.rules.now c.args.states.now c.loop-state.state c.loop-state-test.true c.loop-state.cells c.loop-state.invariant c.fill_row-row.result c.fill_row-row.ensures c.in_default.is
+    let m = c.args.machine.now in
+    let n = c.loop-state.state in
+    let rows = c.loop-state.row-items in
+    let rest = drop m.states.count blank in
+    let row = c.fill_row.result in
+    let inside : n < length rows = omega (arith, c.loop-state-test.true, c.loop-state.invariant.0) in
+    let cells = c.in_ok-row.ensures.cells in (
+      length-set rows n c.in_ok-row.field-0 ∙ c.loop-state.invariant.0,
+      subst (λ l. RowsUpto m.rules m.states (n + 1) l) (set-append_left rows rest n c.in_ok-row.field-0 inside)
+          (subst (λ r. RowsUpto m.rules m.states (n + 1) (set (rows ++ rest) n r)) (sym cells.1) (rows_more m.rules m.states n (omega (arith, inside, c.loop-state.invariant.0)) (rows ++ rest) c.loop-state.invariant.1 row c.fill_row.ensures cells.0)),
+    )
+
+pub returns-in_err-row : goal.returns-in_err-row
+returns-in_err-row c =
+    let m = c.args.machine.now in
+    let n = c.loop-state.state in
+    let rows = c.loop-state.row-items in
+    let row = c.fill_row.result in
+    let told = c.in_err-row.ensures.conflict in
+    let p = err_from_is_err_and c.from_residual.result c.from_residual.ensures.1 in
+    rw (p.1, p.2, told.2) (first_conflict m.rules m.states n (omega (arith, c.loop-state-test.true, c.loop-state.invariant.0)) (rows ++ drop m.states.count blank) c.loop-state.invariant.1 row c.fill_row.ensures told.0 told.1)
 
 pub returns : goal.returns
 returns c =
-    let R = c.args.rules.now in
-    let S = c.args.states.now in
-    rows_all R S c.loop-state.cells (subst (λ n. RowsUpto R S n c.loop-state.cells) (let e : c.loop-state.state ≡ S.count = omega (arith, c.loop-state-test.false, c.loop-state.auto.state-end) in e) c.loop-state.invariant)
-
-pub returns-in-Some : goal.returns-in-Some
-returns-in-Some c =
-    first_conflict c.args.rules.now c.args.states.now c.loop-state.state c.loop-state-test.true c.loop-state.cells c.loop-state.invariant c.fill_row-row.result c.fill_row-row.ensures c.in-Some.conflict c.in-Some.is
+    let m = c.args.machine.now in
+    let cells = c.loop-state.row-items ++ drop m.states.count blank in
+    rows_all m.rules m.states cells (subst (λ n. RowsUpto m.rules m.states n cells) (let e : c.loop-state.state ≡ m.states.count = omega (arith, c.loop-state-test.false, c.loop-state.auto.state-end, c.loop-state.invariant.0) in e) c.loop-state.invariant.1)

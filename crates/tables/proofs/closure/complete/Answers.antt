@@ -1,7 +1,8 @@
-use Rattle.std.proofs.Common.{◌+◌, get_or, sym, subst, arith}
-use Rattle.tables.proofs.Closing.{Filled, filled_start, filled_more, filled_skip, filled_all}
+use Rattle.std.proofs.Common.{false, get_or, arith}
+use Rattle.std.proofs.lemmas.Bool.{both_ways}
+use Rattle.tables.proofs.Closing.{filled_start, filled_more, filled_skip, filled_all}
 use Rattle.tables.proofs.closure.complete.Goals as goal
-use Rattle.tables.proofs.closure.complete.Goals.{then-begins, else-begins}
+use Rattle.tables.proofs.closure.complete.Goals.{then-ahead-rules, else-ahead-rules}
 
 pub loop-q-init : goal.loop-q-init
 loop-q-init c = filled_start c.args.rules.now c.args.items.now (omega arith)
@@ -12,9 +13,9 @@ loop-q-preserved c =
     let xs = c.args.items.now in
     let q = c.loop-q.q in
     let X = get_or R.left q 0 in
-    elim c.if-begins.branch [
-      | then-begins w ↦ subst (λ y. Filled R xs (q + 1) y) (sym w.items-is) (filled_more R xs q c.loop-q.items c.loop-q.auto.q (omega arith) c.loop-q.invariant (c.ahead_of-ahead.ensures.sound X (c.begins.ensures.yes w.if-begins.true)))
-      | else-begins w ↦ subst (λ y. Filled R xs (q + 1) y) (sym w.items-is) (filled_skip R xs q c.loop-q.items c.loop-q.invariant λ a. c.begins.ensures.no w.if-begins.false (c.ahead_of-ahead.ensures.whole X (omega (arith, R.lefts q c.loop-q.auto.q (omega arith))) a))
+    elim c.if-ahead-rules.branch [
+      | then-ahead-rules w ↦ rw w.items-is (filled_more R xs q c.loop-q.items c.loop-q.auto.q (omega arith) c.loop-q.invariant (c.ahead_of-ahead.ensures.sound X w.if-ahead-rules.true))
+      | else-ahead-rules w ↦ rw w.items-is (filled_skip R xs q c.loop-q.items c.loop-q.invariant λ a. both_ways (get_or c.ahead_of-ahead.result X false) w.if-ahead-rules.false (c.ahead_of-ahead.ensures.whole X (omega (arith, R.lefts q c.loop-q.auto.q (omega arith))) a))
     ]
 
 pub returns : goal.returns

@@ -1,22 +1,19 @@
-use Rattle.std.proofs.Common.{◌<◌, sym, ◌∙◌, subst, arith}
+use Rattle.std.proofs.Common.{sym, ◌∙◌, subst, arith}
 use Rattle.tables.specs.Arrays.{grammar_of}
-use Rattle.tables.specs.Closing.{falses}
 use Rattle.tables.specs.CodeMarks.{MarksOf}
 use Rattle.tables.specs.DeriveWords.{DerivesWords}
 use Rattle.tables.proofs.RuleArrays.{terminals_is}
-use Rattle.tables.proofs.DerivingRounds.{Sofar, begun, fewer, round, all_rounds, nullable_marks, productive_marks}
+use Rattle.tables.proofs.DerivingRounds.{begun, fewer, round, all_rounds, nullable_marks, productive_marks}
 use Rattle.tables.proofs.derive_words.derive_words.Goals as goal
 
 pub loop-r-init : goal.loop-r-init
 loop-r-init c = begun c.args.rules.now c.args.words c.first_codes-marks.result c.requires (omega arith) c.first_codes-marks.ensures
 
 pub loop-r-smaller : goal.loop-r-smaller
-loop-r-smaller c =
-    subst (λ m. falses m < falses c.loop-r.marks) (sym c.mark.ensures) (fewer c.args.rules.now c.args.words c.loop-r.marks c.in-Some.r c.loop-r.invariant c.in-Some.ensures)
+loop-r-smaller c = fewer c.args.rules.now c.args.words c.loop-r.marks c.in-Some.r c.loop-r.invariant c.in-Some.ensures
 
 pub loop-r-preserved : goal.loop-r-preserved
-loop-r-preserved c =
-    subst (λ m. Sofar c.args.rules.now c.args.words m) (sym c.mark.ensures) (round c.args.rules.now c.args.words c.loop-r.marks c.in-Some.r c.loop-r.invariant c.in-Some.ensures)
+loop-r-preserved c = round c.args.rules.now c.args.words c.loop-r.marks c.in-Some.r c.loop-r.invariant c.in-Some.ensures
 
 pub returns : goal.returns
 returns c =

@@ -1,18 +1,19 @@
 use Rattle.std.proofs.Common.{◌+◌, ◌||◌, sym, ap, ◌∙◌, subst, arith}
 use Rattle.gather.specs.Members.{has}
+use Rattle.grammar.specs.Lookahead.{next_end}
 use Rattle.tables.specs.Arrays.{automaton}
 use Rattle.tables.specs.Transitions.{DirectIn}
 use Rattle.tables.specs.WordSets.{WordsBelow}
 use Rattle.tables.proofs.Answered.{told_some, told_none}
 use Rattle.tables.proofs.WordSets.{words_one, words_none, words_more, words_skip, words_all}
-use Rattle.tables.proofs.DirectWords.{direct_end, no_direct_end, direct_word, no_direct_word, direct_below}
+use Rattle.tables.proofs.DirectWords.{no_direct_end, direct_word, no_direct_word, direct_below}
 use Rattle.tables.proofs.direct.direct_words.Goals as goal
-use Rattle.tables.proofs.direct.direct_words.Goals.{then-at_end, else-at_end, then-is_some, else-is_some}
+use Rattle.tables.proofs.direct.direct_words.Goals.{then-has_item, else-has_item, then-is_some, else-is_some}
 
 pub loop-word-preserved : goal.loop-word-preserved
 loop-word-preserved c =
-    let R = c.args.rules.now in
-    let S = c.args.states.now in
+    let R = c.args.machine.now.rules in
+    let S = c.args.machine.now.states in
     let s = c.args.state in
     let w = c.loop-word.word in
     elim c.if-is_some.branch [
@@ -27,18 +28,17 @@ loop-word-preserved c =
 
 pub returns : goal.returns
 returns c =
-    let R = c.args.rules.now in
-    let S = c.args.states.now in
+    let R = c.args.machine.now.rules in
+    let S = c.args.machine.now.states in
     words_all (DirectIn R S c.args.state) c.loop-word.word 64 c.loop-word.words (λ w d. omega (arith, direct_below R S c.args.state w d, c.loop-word-test.false)) c.loop-word.invariant
 
 pub loop-word-init : goal.loop-word-init
 loop-word-init c =
-    let R = c.args.rules.now in
-    let S = c.args.states.now in
+    let m = c.args.machine.now in
     let s = c.args.state in
-    elim c.if-at_end.branch [
-      | then-at_end v ↦ subst (λ x. WordsBelow (DirectIn R S s) 1 x) (sym v.words-is) (words_one (DirectIn R S s) v.one-words.result v.one-words.ensures (direct_end R S s c.requires (sym v.if-at_end.ensures)))
-      | else-at_end v ↦
-          subst (λ x. WordsBelow (DirectIn R S s) 1 x) (sym v.words-is)
-          (words_skip (DirectIn R S s) 0 v.empty-words.result (no_direct_end R S s (sym v.if-at_end.ensures)) (words_none (DirectIn R S s) v.empty-words.result v.empty-words.ensures))
+    elim c.if-has_item.branch [
+      | then-has_item v ↦ subst (λ x. WordsBelow (DirectIn m.rules m.states s) 1 x) (sym v.words-is) (words_one (DirectIn m.rules m.states s) v.one-words.result v.one-words.ensures (next_end (sym v.if-has_item.ensures)))
+      | else-has_item v ↦
+          subst (λ x. WordsBelow (DirectIn m.rules m.states s) 1 x) (sym v.words-is)
+          (words_skip (DirectIn m.rules m.states s) 0 v.empty-words.result (no_direct_end m.rules m.states s (sym v.if-has_item.ensures)) (words_none (DirectIn m.rules m.states s) v.empty-words.result v.empty-words.ensures))
     ]

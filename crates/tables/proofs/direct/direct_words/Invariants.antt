@@ -3,4 +3,4 @@ use Rattle.tables.specs.WordSets.{WordsBelow}
 use Rattle.tables.proofs.direct.direct_words.Given as goal
 
 abbrev pub invariant-loop-word : goal.invariant-loop-word
-invariant-loop-word l = WordsBelow (DirectIn l.rules l.states l.state) l.word l.words
+invariant-loop-word l = WordsBelow (DirectIn l.machine.rules l.machine.states l.state) l.word l.words

@@ -1,4 +1,5 @@
-use Rattle.std.proofs.Common.{◌+◌, get_or, sym, subst, arith}
+use Rattle.std.proofs.Common.{◌+◌, get_or, sym, ap, ◌∙◌, subst, arith}
+use Rattle.bounded.specs.BoundedList.{listed}
 use Rattle.tables.specs.Arrays.{automaton}
 use Rattle.tables.specs.IncludeSteps.{StepsUpto, order}
 use Rattle.tables.proofs.Answered.{told_some, told_none}
@@ -9,32 +10,31 @@ use Rattle.tables.proofs.includes.steps_by_state.Goals.{then-is_some, else-is_so
 
 pub steps_by_rule-requires : goal.steps_by_rule-requires
 steps_by_rule-requires c =
-    let R = c.args.rules.now in
-    let S = c.args.states.now in
+    let m = c.args.machine.now in
     let q = c.args.state in
     let r = c.loop-rule.rule in
-    let X = get_or R.left r 0 in
-    let t = told_some c.goto.result ((automaton R S).goto q X) c.goto.ensures c.if-is_some.ensures in
+    let X = get_or m.rules.left r 0 in
+    let t = told_some c.goto.result ((automaton m.rules m.states).goto q X) (c.goto.ensures ∙ ap ((automaton m.rules m.states).goto q) c.from.ensures) c.if-is_some.ensures in
     record {
-      rule = (c.loop-rule.auto.rule, omega (arith, c.loop-rule-test.true));
+      rule = (c.loop-rule.auto.rule, omega (arith, c.loop-rule-test.true, c.from-rule-end.ensures));
       marks = c.requires.marks;
-      to = transition R S q X t.0 (R.lefts r c.loop-rule.auto.rule (omega (arith, c.loop-rule-test.true))) t.1;
+      to = transition m.rules m.states q X t.0 (m.rules.lefts r c.loop-rule.auto.rule (omega (arith, c.loop-rule-test.true, c.from-rule-end.ensures))) t.1;
       upto = c.loop-rule.invariant;
     }
 
 pub loop-rule-preserved : goal.loop-rule-preserved
 loop-rule-preserved c =
-    let R = c.args.rules.now in
-    let S = c.args.states.now in
+    let m = c.args.machine.now in
     let q = c.args.state in
     let r = c.loop-rule.rule in
     elim c.if-is_some.branch [
-      | then-is_some w ↦ subst (λ s. StepsUpto R S (order q (r + 1) 0) s) (sym w.steps-is) w.steps_by_rule.ensures
+      | then-is_some w ↦ subst (λ s. StepsUpto m.rules m.states (order q (r + 1) 0) (listed s)) (sym w.steps-is) w.steps_by_rule.ensures
       | else-is_some w ↦
-          subst (λ s. StepsUpto R S (order q (r + 1) 0) s) (sym w.steps-is)
-          (no_left R S q r c.loop-rule.auto.rule (omega (arith, c.loop-rule-test.true)) c.loop-rule.steps (told_none c.goto.result ((automaton R S).goto q (get_or R.left r 0)) c.goto.ensures w.if-is_some.ensures) c.loop-rule.invariant)
+          subst (λ s. StepsUpto m.rules m.states (order q (r + 1) 0) (listed s)) (sym w.steps-is)
+          (no_left m.rules m.states q r c.loop-rule.auto.rule (omega (arith, c.loop-rule-test.true, c.from-rule-end.ensures)) (listed c.loop-rule.steps) (told_none c.goto.result ((automaton m.rules m.states).goto q (get_or m.rules.left r 0)) (c.goto.ensures ∙ ap ((automaton m.rules m.states).goto q) c.from.ensures) w.if-is_some.ensures) c.loop-rule.invariant)
     ]
 
 pub returns : goal.returns
 returns c =
-    last_rule c.args.rules.now c.args.states.now c.args.state c.loop-rule.rule c.loop-rule.steps c.loop-rule-test.false (c.loop-rule.auto.rule-end (omega arith)) c.loop-rule.invariant
+    let m = c.args.machine.now in
+    last_rule m.rules m.states c.args.state c.loop-rule.rule (listed c.loop-rule.steps) (omega (arith, c.loop-rule-test.false, c.from-rule-end.ensures)) (omega (arith, c.loop-rule.auto.rule-end (omega arith), c.from-rule-end.ensures)) c.loop-rule.invariant

@@ -1,24 +1,32 @@
-use Rattle.std.proofs.Common.{arith}
-use Rattle.tables.proofs.SheetArrays.{code_read, written_more, written_all, off_range}
+use Rattle.std.proofs.Common.{◌<◌, ◌≢◌, length, refl, arith, below_more, get_or-set_other, get_or-set_same}
+use Rattle.std.proofs.lemmas.List.{ext_get_or}
+use Rattle.grammar.specs.Grammar.{right_side}
+use Rattle.grammar.proofs.Codes.{each_code}
+use Rattle.tables.proofs.SheetArrays.{code_read, off_range}
 use Rattle.tables.proofs.limits.codes.Goals as goal
 
-pub returns-then-not-is_code : goal.returns-then-not-is_code
-returns-then-not-is_code g c =
+pub returns-then-code-eq0 : goal.returns-then-code-eq0
+returns-then-code-eq0 g c =
     let G = g.S.RuleSheet.meaning c.args.sheet.now in
     let r = c.args.rule in
     let d = c.loop-place.place in
-    off_range G r d c.or_zero-code.result (code_read G r d c.or_zero-code.result c.code.result c.requires.rule.0 c.or_zero-code.ensures c.code.ensures) (omega (arith, c.requires.size.0))
-    λ low high. c.is_code.ensures.no c.if-not-is_code.true low (omega (arith, c.requires.top.0))
+    let is = code_read G r d c.unwrap_or-code.result c.code.result c.requires.rule c.unwrap_or-code.ensures c.code.ensures in
+    (refl, off_range G r d c.unwrap_or-code.result is (omega (arith, c.requires.size.0)) λ low high. omega (arith, c.requires.top.0))
 
 pub loop-place-preserved : goal.loop-place-preserved
 loop-place-preserved g c =
     let G = g.S.RuleSheet.meaning c.args.sheet.now in
-    let r = c.args.rule in
     let d = c.loop-place.place in
-    let ok = c.is_code.ensures.yes c.if-not-is_code.false in
-    written_more G r c.args.top c.args.right.now d c.or_zero-code.result c.loop-place.right c.loop-place.invariant c.requires.rule.1 (omega (arith, c.requires.size.1)) (code_read G r d c.or_zero-code.result c.code.result c.requires.rule.0 c.or_zero-code.ensures c.code.ensures) ok.0 ok.1
+    let is = code_read G c.args.rule d c.unwrap_or-code.result c.code.result c.requires.rule c.unwrap_or-code.ensures c.code.ensures in
+    below_more _ _
+    (λ k h. let ne : k ≢ d = omega arith in rw get_or-set_other (c.loop-place.invariant k h))
+    (let lt : d < length c.loop-place.right = omega arith in rw get_or-set_same (is, omega arith, omega arith))
 
 pub returns : goal.returns
 returns g c =
     let G = g.S.RuleSheet.meaning c.args.sheet.now in
-    written_all G c.args.rule c.args.right.now c.loop-place.place c.args.top c.loop-place.right (omega (arith, c.requires.size.0)) c.requires.top.0 c.loop-place.invariant
+    let rs = right_side G c.args.rule in
+    let all = c.loop-place.invariant in (
+      ext_get_or 0 c.loop-place.right rs (omega (arith, c.requires.size.0)) (λ d l. (all d (omega arith)).0),
+      each_code G rs λ d l. let k = all d (omega (arith, c.requires.size.0)) in (omega (arith, k.0, k.1), omega (arith, k.0, k.2, c.requires.top.0)),
+    )

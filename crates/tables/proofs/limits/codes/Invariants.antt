@@ -1,7 +1,6 @@
-use Rattle.std.proofs.Common.{◌*◌}
+use Rattle.std.proofs.Common.{◌≡◌, ℕ, ◌<◌, ◌≤◌, get_or}
 use Rattle.grammar.specs.Grammar.{right_side}
-use Rattle.tables.specs.SheetArrays.{Written}
 use Rattle.tables.proofs.limits.codes.Given as goal
 
 abbrev pub invariant-loop-place : goal.invariant-loop-place
-invariant-loop-place g l = Written (right_side (g.S.RuleSheet.meaning l.sheet) l.rule) l.place (9 * l.rule) l.top l.initial.right l.right
+invariant-loop-place g l = (d : ℕ) → d < l.place → (get_or l.right d 0 ≡ get_or (right_side (g.S.RuleSheet.meaning l.sheet) l.rule) d 0) × (1 ≤ get_or l.right d 0) × (get_or l.right d 0 ≤ l.top)

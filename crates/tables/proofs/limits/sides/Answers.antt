@@ -1,4 +1,4 @@
-use Rattle.std.proofs.Common.{◌≡◌, suc, ◌+◌, ◌-◌, ◌<◌, length, sym, subst, arith}
+use Rattle.std.proofs.Common.{◌≡◌, suc, ◌+◌, ◌-◌, ◌<◌, length, rules, subst, arith}
 use Rattle.grammar.specs.Outcome.{Outcome, refused, out_of_range}
 use Rattle.tables.specs.SheetArrays.{Sides, Lengths}
 use Rattle.tables.proofs.SheetArrays.{left_read}
@@ -8,43 +8,28 @@ use Rattle.tables.proofs.limits.sides.Goals as goal
 pub loop-rule-init : goal.loop-rule-init
 loop-rule-init g c = sides_first (g.S.RuleSheet.meaning c.args.sheet.now) c.terminals-terminals.result c.terminals-terminals.ensures
 
-pub returns-then-not-is_nonterminal : goal.returns-then-not-is_nonterminal
-returns-then-not-is_nonterminal g c =
+pub returns-then-side-terminals : goal.returns-then-side-terminals
+returns-then-side-terminals g c =
     let G = g.S.RuleSheet.meaning c.args.sheet.now in
     let r = c.loop-rule.rule in
-    let is = left_read G r c.or_zero-side.result c.left.result (omega arith) c.or_zero-side.ensures c.left.ensures in
-    subst (λ e. Outcome G (refused e)) (sym c.out_of_range.ensures)
-    (out_of_range c.requires.within (lowest G r c.loop-rule.left c.loop-rule.right c.loop-rule.invariant (omega arith) (omega arith)
-    λ range. c.is_nonterminal.ensures.no c.if-not-is_nonterminal.true (omega (arith, range.left.low, is)) (omega (arith, range.left.high, is))))
+    let is = left_read G r c.unwrap_or-side.result c.left.result (omega arith) c.unwrap_or-side.ensures c.left.ensures in
+    out_of_range c.requires.within (lowest G r c.loop-rule.left c.loop-rule.right c.loop-rule.invariant (omega arith) (omega arith) λ range. omega (arith, range.left.low, range.left.high, is))
 
-pub codes-requires : goal.codes-requires
-codes-requires g c =
-    let r = c.loop-rule.rule in
-    let b : r < suc (length (g.S.RuleSheet.meaning c.args.sheet.now).rules) = omega arith in
-    record {
-      rule = (omega arith, omega (arith, c.requires.within.rules));
-      size = (c.requires.lengths.below r b, c.requires.lengths.short r b);
-      top = (omega arith, omega (arith, c.requires.within.terminals, c.requires.within.nonterminals));
-    }
-
-pub returns-then-not-codes : goal.returns-then-not-codes
-returns-then-not-codes g c =
+pub returns-in_err-codes : goal.returns-in_err-codes
+returns-in_err-codes g c =
     let G = g.S.RuleSheet.meaning c.args.sheet.now in
-    let r = c.loop-rule.rule in
-    subst (λ e. Outcome G (refused e)) (sym c.out_of_range-then-not-codes.ensures)
-    (out_of_range c.requires.within (lowest G r c.loop-rule.left c.loop-rule.right c.loop-rule.invariant (omega arith) (omega arith)
-    (λ range. c.if-not-codes.ensures range.right)))
+    let told : Outcome G (refused c.in_err-codes.field-0.0) = rw c.in_err-codes.ensures.0 (out_of_range c.requires.within (lowest G c.loop-rule.rule c.loop-rule.left c.loop-rule.right c.loop-rule.invariant (omega arith) (omega arith) λ range. c.in_err-codes.ensures.1 range.right)) in
+    search rules
 
 pub loop-rule-preserved : goal.loop-rule-preserved
 loop-rule-preserved g c =
     let G = g.S.RuleSheet.meaning c.args.sheet.now in
     let r = c.loop-rule.rule in
     let b : r < suc (length G.rules) = omega arith in
-    let is = left_read G r c.or_zero-side.result c.left.result (omega arith) c.or_zero-side.ensures c.left.ensures in
-    let ok = c.is_nonterminal.ensures.yes c.if-not-is_nonterminal.false in
-    sides_more G r c.or_zero-side.result c.loop-rule.left c.loop-rule.right c.codes.new.right c.loop-rule.invariant (omega arith) (omega arith) is
-    (record { low = omega (arith, ok.0); high = omega (arith, ok.1) })
-    (omega (arith, c.requires.lengths.below r b, c.requires.lengths.short r b)) c.if-not-codes.ensures
+    let is = left_read G r c.unwrap_or-side.result c.left.result (omega arith) c.unwrap_or-side.ensures c.left.ensures in
+    sides_more G r c.unwrap_or-side.result _ c.loop-rule.left c.loop-rule.right c.codes.new.right c.loop-rule.invariant (omega arith) (omega (arith, c.requires.within.counts.rules)) is
+    (record { low = omega arith; high = omega arith })
+    (omega (arith, c.requires.lengths.short r b)) (omega (arith, c.requires.lengths.below r b)) c.in_ok-codes.ensures.0 c.in_ok-codes.ensures.1
 
 pub invariant_of-result : goal.invariant_of-result
 invariant_of-result g c =
@@ -59,12 +44,12 @@ invariant_of-result g c =
     let f : Sides G (suc p) c.loop-rule.left c.loop-rule.right = subst (λ n. Sides G n c.loop-rule.left c.loop-rule.right) last c.loop-rule.invariant in
     let q = kept G W t k p c.terminals-terminals.ensures kn c.rules.ensures c.args.size c.loop-rule.left c.loop-rule.right m f in
     record {
-      terminals1 = omega (arith, W.some_terminal);
-      terminals63 = omega (arith, W.terminals);
-      nonterminals1 = omega (arith, W.some_nonterminal);
-      nonterminals24 = omega (arith, W.nonterminals);
-      count1 = omega (arith, W.some_rule);
-      count96 = omega (arith, W.rules);
+      terminals1 = omega (arith, W.counts.some_terminal);
+      terminals63 = omega (arith, W.counts.terminals);
+      nonterminals1 = omega (arith, W.counts.some_nonterminal);
+      nonterminals24 = omega (arith, W.counts.nonterminals);
+      count1 = omega (arith, W.counts.some_rule);
+      count96 = omega (arith, W.counts.rules);
       leftlength = f.left_places;
       sizelength = m.places;
       rightlength = f.right_places;

@@ -4,4 +4,4 @@ use Rattle.tables.proofs.lookahead.add_follows.Goals as goal
 
 pub returns : goal.returns
 returns c =
-    last_rule c.args.rules.now c.args.states.now c.args.state c.loop-rule.rule c.loop-rule.sets c.loop-rule-test.false (c.loop-rule.auto.rule-end (omega arith)) c.loop-rule.invariant
+    last_rule c.args.machine.now.rules c.args.machine.now.states c.args.state c.loop-rule.rule c.loop-rule.sets (omega (arith, c.loop-rule-test.false, c.from-rule-end.ensures)) (omega (arith, c.loop-rule.auto.rule-end (omega arith), c.from-rule-end.ensures)) c.loop-rule.invariant

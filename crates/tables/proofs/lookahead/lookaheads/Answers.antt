@@ -4,10 +4,10 @@ use Rattle.tables.proofs.Lookaheads.{upto_none, upto_all}
 use Rattle.tables.proofs.lookahead.lookaheads.Goals as goal
 
 pub loop-state-init : goal.loop-state-init
-loop-state-init c = upto_none c.args.rules.now c.args.states.now
+loop-state-init c = upto_none c.args.machine.now.rules c.args.machine.now.states
 
 pub returns : goal.returns
 returns c =
-    let R = c.args.rules.now in
-    let S = c.args.states.now in
+    let R = c.args.machine.now.rules in
+    let S = c.args.machine.now.states in
     upto_all R S c.loop-state.sets (subst (λ n. LookaheadsUpto R S (97 * n + 1) c.loop-state.sets) (let e : c.loop-state.state ≡ S.count = omega (arith, c.loop-state-test.false, c.loop-state.auto.state-end) in e) c.loop-state.invariant)

@@ -3,4 +3,4 @@ use Rattle.tables.specs.Lookaheads.{LookaheadsUpto}
 use Rattle.tables.proofs.lookahead.lookaheads.Given as goal
 
 abbrev pub invariant-loop-state : goal.invariant-loop-state
-invariant-loop-state l = LookaheadsUpto l.rules l.states (97 * l.state + 1) l.sets
+invariant-loop-state l = LookaheadsUpto l.machine.rules l.machine.states (97 * l.state + 1) l.sets

@@ -1,8 +1,11 @@
+use Rattle.std.proofs.lemmas.Result.{err_from_is_err_and}
 use Rattle.tables.proofs.Outcomes.{useless_told, crowded_told}
 use Rattle.tables.proofs.tables.of_rules.Goals as goal
 
 pub returns-in-Some : goal.returns-in-Some
-returns-in-Some c = useless_told c.args.rules c.in-Some.code c.in-Some.ensures
+returns-in-Some c = rw c.from.ensures (useless_told c.args.rules c.in-Some.code c.in-Some.ensures)
 
-pub returns-then-not-number : goal.returns-then-not-number
-returns-then-not-number c = crowded_told c.args.rules c.in_default.ensures (c.number.ensures.crowded c.if-not-number.true)
+pub returns-in_err-states : goal.returns-in_err-states
+returns-in_err-states c =
+    let p = err_from_is_err_and c.from_residual.result c.from_residual.ensures.1 in
+    rw (p.1, p.2, c.in_err-states.ensures.0) (crowded_told c.args.rules c.in_default.ensures c.in_err-states.ensures.1)

@@ -1,17 +1,17 @@
-use Rattle.std.proofs.Common.{not, sym, ap, ◌∙◌, rules}
-use mathlib.Core.Bool.{beq}
+use Rattle.std.proofs.Common.{◌≡◌, Ok, map, set, sym, ap, ◌∙◌, subst, rules}
 use Rattle.tables.specs.Building.{held}
-use Rattle.plan.proofs.LineCalls.{fresh_refused, fresh_done}
+use Rattle.line.specs.PlanLines.{is_judged, plan_line_of}
+use Rattle.plan.specs.Lines.{Freshened}
+use Rattle.plan.proofs.LineCalls.{fresh_done}
 use Rattle.plan.proofs.lines.Lines.freshen.Goals as goal
-
-pub returns-then-is_judged-judged : goal.returns-then-is_judged-judged
-returns-then-is_judged-judged c =
-    fresh_refused (held c.args.tables.now) c.args.self.now.lines c.args.designer c.in_ok-place.place c.index-self-place.result c.in_ok-place.ensures (search rules) c.args.judged
-    (ap (λ b. not (beq b c.args.judged)) (sym c.is_judged.ensures) ∙ c.if-is_judged-judged.true)
 
 pub returns : goal.returns
 returns c =
-    fresh_done (held c.args.tables.now) c.args.self.now.lines c.args.designer c.in_ok-place.place c.index-self-place.result c.in_ok-place.ensures (search rules) c.args.judged
-    c.fresh.result
-    (ap (λ b. not (beq b c.args.judged)) (sym c.is_judged.ensures) ∙ c.if-is_judged-judged.false)
-    c.fresh.ensures
+    let h = held c.args.tables.now in
+    let xs = c.self.inside.lines in
+    let d = c.args.designer in
+    let p = c.in_ok-place.place in
+    let y = c.fresh.result in
+    let e : c.status.result ≡ c.args.status = search rules in
+    subst (λ ls. Freshened h ls d c.args.status (Ok tt) (map plan_line_of (set xs p y))) c.self.view_is
+    (fresh_done h xs d p c.index-self-place.result y c.in_ok-place.ensures (search rules) c.fresh.ensures c.args.status (sym c.status.ensures ∙ ap is_judged e))

@@ -1,12 +1,14 @@
-use Rattle.std.proofs.Common.{get_or, sym, subst}
+use Rattle.std.proofs.Common.{◌≡◌, ◌+◌, get_or, subst, arith}
 use Rattle.sheet.specs.Packing.{BodyAt}
 use Rattle.sheet.proofs.Bodies.{body_at, no_rule_past}
 use Rattle.sheet.proofs.packed.PackedSheet.place.Goals as goal
 
-pub returns-in_default : goal.returns-in_default
-returns-in_default c = no_rule_past c.args.self.now.numbers.now c.args.rule c.in_default.ensures
+pub returns-then-before-self : goal.returns-then-before-self
+returns-then-before-self c = no_rule_past c.args.self.now.numbers.now c.args.rule (λ _. let one = c.in_ok-before.ensures in omega (arith, one.0, one.1))
 
 pub returns : goal.returns
 returns c =
-    let h = c.in-Some.ensures in
-    subst (λ i. BodyAt c.args.self.now.numbers.now c.args.rule (get_or c.args.self.now.numbers.now i 0)) (sym h.0) (body_at c.args.self.now.numbers.now c.args.self.now.lies c.args.rule h.1 h.2)
+    let one = c.in_ok-before.ensures in
+    let ns = c.args.self.now.numbers.now in
+    let place : 2 + c.args.rule ≡ 3 + c.in_ok-before.before = omega (arith, one.0, one.1) in
+    subst (λ i. BodyAt ns c.args.rule (get_or ns i 0)) place (body_at ns c.args.self.now.lies c.args.rule (omega (arith, one.0)) (omega (arith, one.0, one.1)))

@@ -10,4 +10,4 @@ returns-then-k-self c =
 pub returns : goal.returns
 returns c =
     let R = c.args.self.now.rules.now in
-    record { told = users_told R c.args.place c.args.k c.user.result c.if-k-self.false c.user.ensures.left c.user.ensures.none; short = omega (arith, users_length R c.args.place) }
+    record { told = users_told R c.args.place c.args.k c.user.result c.if-k-self.false c.user.ensures; short = omega (arith, users_length R c.args.place) }

@@ -1,5 +1,0 @@
-use Rattle.std.proofs.Common.{take}
-use Rattle.book.proofs.entry.put_all.Given as goal
-
-abbrev pub invariant-loop-number : goal.invariant-loop-number
-invariant-loop-number g l = g.B.Book.grows l.initial.book (take l.number-index l.numbers) l.book

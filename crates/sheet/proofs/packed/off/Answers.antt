@@ -1,6 +1,0 @@
-use Rattle.sheet.specs.Packing.Off.{missing}
-use Rattle.sheet.proofs.OffLayout.{told_at}
-use Rattle.sheet.proofs.packed.off.Goals as goal
-
-pub returns-in_default : goal.returns-in_default
-returns-in_default c = told_at c.args.numbers.now 0 (missing c.in_default.ensures)

@@ -1,5 +1,0 @@
-use Rattle.tables.specs.SheetArrays.{Lengths}
-use Rattle.tables.proofs.limits.sizes.Given as goal
-
-abbrev pub invariant-loop-rule : goal.invariant-loop-rule
-invariant-loop-rule g l = Lengths (g.S.RuleSheet.meaning l.sheet) l.rule l.size
