@@ -72,9 +72,7 @@ fn contents(numbers: &[u16]) -> Option<&[u16]>
 fn check_layout(numbers: &[u16]) -> Result<(), Refusal>
     ensures { MatchResult result (λ _. InLayout numbers.now) (λ e. Refused numbers.now e) }
 {
-    let Some(contents) = contents(numbers) else {
-        return Err(Refusal::Layout { rule: 0 });
-    };
+    let contents = contents(numbers).ok_or(Refusal::Layout { rule: 0 })?;
     let end = bodies_end(numbers, contents)?;
     if end < numbers.len() {
         return Err(Refusal::Layout {
@@ -92,12 +90,9 @@ fn bodies_end(numbers: &[u16], contents: &[u16]) -> Result<usize, Refusal>
 {
     let mut at = 3 + contents.len();
     for (rule, place) in contents.iter().enumerate() {
-        let Some(end) = body_end(numbers, *place as usize, at) else {
-            return Err(Refusal::Layout {
-                rule: rule as u32 + 1,
-            });
-        };
-        at = end;
+        at = body_end(numbers, *place as usize, at).ok_or(Refusal::Layout {
+            rule: rule as u32 + 1,
+        })?;
     }
     Ok(at)
 }
@@ -147,6 +142,7 @@ impl<'a> RuleSheet for PackedSheet<'a> {
 // A theorem: what is packed is never off its layout, and both answers are single.
 pub fn layout_laws() -> u8
     ensures laws { LayoutLaws }
+    ensures answer { result ≡ 0 }
 {
     0
 }

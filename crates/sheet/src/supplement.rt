@@ -46,9 +46,7 @@ impl<S: RuleSheet> Supplement<S> {
         if rules >= 96 || self.own.is_full() {
             return Err(Refusal::Limits);
         }
-        let Ok(rule) = ShortRule::with_codes(left, codes) else {
-            return Err(Refusal::Limits);
-        };
+        let rule = ShortRule::with_codes(left, codes).map_err(|_| Refusal::Limits)?;
         if !in_range(self, left, codes) {
             return Err(Refusal::Range { rule: rules + 1 });
         }

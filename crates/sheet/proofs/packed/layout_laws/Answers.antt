@@ -1,5 +1,5 @@
 use Rattle.sheet.proofs.OffLayout.{layout_laws}
 use Rattle.sheet.proofs.packed.layout_laws.Goals as goal
 
-pub returns : goal.returns
-returns c = record { laws = layout_laws }
+pub returns-clause-laws : goal.returns-clause-laws
+returns-clause-laws c = layout_laws
