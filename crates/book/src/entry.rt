@@ -6,6 +6,7 @@ use super::book::Book;
 pub fn enter<B: Book>(book: &mut B, numbers: &[u16]) -> bool
     ensures { Entered B.list B.free B.grows book.old numbers.now result book.new }
 {
+    // Widened by `as`: there is no `usize::from(u32)`.
     if numbers.len() > book.free() as usize {
         return false;
     }

@@ -46,7 +46,7 @@ impl<'a> PackedSheet<'a> {
         if before >= self.numbers[2] {
             return None;
         }
-        Some(self.numbers[3 + before as usize] as usize)
+        Some(usize::from(self.numbers[3 + usize::from(before)]))
     }
 
     // The left side and the codes of a rule.
@@ -56,7 +56,10 @@ impl<'a> PackedSheet<'a> {
     {
         let at = self.place(rule)?;
         let behind = &self.numbers[at + 2..];
-        Some((self.numbers[at], &behind[..self.numbers[at + 1] as usize]))
+        Some((
+            self.numbers[at],
+            &behind[..usize::from(self.numbers[at + 1])],
+        ))
     }
 }
 
@@ -64,7 +67,7 @@ impl<'a> PackedSheet<'a> {
 fn contents(numbers: &[u16]) -> Option<&[u16]>
     ensures { MatchOption result (length numbers.now < 3 + stated numbers.now) (λ c. (3 + stated numbers.now ≤ length numbers.now) × (c.now ≡ take (stated numbers.now) (drop 3 numbers.now))) }
 {
-    let rules = *numbers.get(2)? as usize;
+    let rules = usize::from(*numbers.get(2)?);
     numbers.get(3..3 + rules)
 }
 
@@ -90,7 +93,7 @@ fn bodies_end(numbers: &[u16], contents: &[u16]) -> Result<usize, Refusal>
 {
     let mut at = 3 + contents.len();
     for (rule, place) in contents.iter().enumerate() {
-        at = body_end(numbers, *place as usize, at).ok_or(Refusal::Layout {
+        at = body_end(numbers, usize::from(*place), at).ok_or(Refusal::Layout {
             rule: rule as u32 + 1,
         })?;
     }
@@ -105,7 +108,7 @@ fn body_end(numbers: &[u16], place: usize, at: usize) -> Option<usize>
     if place != at {
         return None;
     }
-    let codes = *numbers.get(at + 1)? as usize;
+    let codes = usize::from(*numbers.get(at + 1)?);
     let end = at + 2 + codes;
     (end <= numbers.len()).then_some(end)
 }
@@ -135,7 +138,7 @@ impl<'a> RuleSheet for PackedSheet<'a> {
 
     fn code(&self, rule: u16, place: u16) -> Option<u16> {
         let (_, codes) = self.rule(rule)?;
-        codes.get(place as usize).copied()
+        codes.get(usize::from(place)).copied()
     }
 }
 

@@ -5,6 +5,8 @@ ghost use Rattle.sheet.specs.Packs.{Narrow, NarrowPlaces, Packs, PacksNot, rule_
 use super::rule_sheet::RuleSheet;
 
 // Sheet and list come beside each other, since each function writes a part of the list of its own.
+// Rules and codes are asked for only where there are such, so the 0 of `unwrap_or(0)` is never told.
+// What is read by `i` is the rule after rule i: `i < rules` says that there is one, and `i < 65535` that its number has 16 bits.
 
 // Packs any sheet into the front of a lent list, and tells how many numbers that took.
 // A packing that does not fit is not begun.
@@ -24,12 +26,12 @@ fn packed_size<S: RuleSheet>(sheet: &S) -> Option<usize>
     ensures { MatchOption result (Narrow (packed (S.RuleSheet.meaning sheet.now)) → ⊥) (λ n. (n ≡ length (packed (S.RuleSheet.meaning sheet.now))) × NarrowPlaces (S.RuleSheet.meaning sheet.now)) }
 {
     let rules = sheet.rules();
-    let mut at = 3 + rules as usize;
+    let mut at = 3 + usize::from(rules);
     for i in 0..rules {
         if at > 65535 {
             return None;
         }
-        at += 2 + size(sheet, i) as usize;
+        at += 2 + usize::from(size(sheet, i));
     }
     Some(at)
 }
@@ -51,7 +53,7 @@ fn put<S: RuleSheet>(sheet: &S, out: &mut [u16])
 {
     let (counts, rest) = out.split_at_mut(3);
     counts.copy_from_slice(&[sheet.terminals(), sheet.nonterminals(), sheet.rules()]);
-    let (places, behind) = rest.split_at_mut(sheet.rules() as usize);
+    let (places, behind) = rest.split_at_mut(usize::from(sheet.rules()));
     put_contents(sheet, places);
     put_bodies(sheet, behind);
 }
@@ -66,7 +68,7 @@ fn put_contents<S: RuleSheet>(sheet: &S, out: &mut [u16])
     let mut at = 3 + out.len();
     for (i, place) in out.iter_mut().enumerate() {
         *place = at as u16;
-        at += 2 + size(sheet, i as u16) as usize;
+        at += 2 + usize::from(size(sheet, i as u16));
     }
 }
 
@@ -77,7 +79,7 @@ fn put_bodies<S: RuleSheet>(sheet: &S, out: &mut [u16])
 {
     let mut at = 0;
     for i in 0..sheet.rules() {
-        let end = at + 2 + size(sheet, i) as usize;
+        let end = at + 2 + usize::from(size(sheet, i));
         put_body(sheet, i, &mut out[at..end]);
         at = end;
     }

@@ -51,7 +51,7 @@ impl ShortRule {
     pub fn code(&self, place: u16) -> Option<u16>
         ensures { result ≡ slice_get (rule_of self.now).right place }
     {
-        self.codes.get(place as usize)
+        self.codes.get(usize::from(place))
     }
 
     // One more code at the end, or none where it would be the ninth.

@@ -61,7 +61,7 @@ impl<S: RuleSheet> Supplement<S> {
             return None;
         }
         let behind = rule.checked_sub(self.sheet.rules())?;
-        self.own.get(behind.checked_sub(1)? as usize)
+        self.own.get(usize::from(behind.checked_sub(1)?))
     }
 }
 
@@ -77,8 +77,10 @@ fn in_range<S: RuleSheet>(sheet: &S, left: u16, codes: &[u16]) -> bool
 fn are_codes<S: RuleSheet>(sheet: &S, codes: &[u16]) -> bool
     ensures { Decides result (AllCodes (S.RuleSheet.meaning sheet.now) codes.now) }
 {
-    let last = sheet.terminals() as u32 + sheet.nonterminals() as u32;
-    codes.iter().all(|&code| code >= 1 && code as u32 <= last)
+    let last = u32::from(sheet.terminals()) + u32::from(sheet.nonterminals());
+    codes
+        .iter()
+        .all(|&code| code >= 1 && u32::from(code) <= last)
 }
 
 impl<S: RuleSheet> RuleSheet for Supplement<S> {

@@ -9,7 +9,7 @@ pub returns-in_err-at : goal.returns-in_err-at
 returns-in_err-at c =
     let ns = c.args.numbers.now in
     let long = contents_length ns c.args.contents.now c.requires.listed c.requires.contents in
-    let place = contents_at ns c.args.contents.now c.requires.listed c.requires.contents c.loop-rule.rule c.loop-rule-test.true in
+    let place = c.from.ensures ∙ contents_at ns c.args.contents.now c.requires.listed c.requires.contents c.loop-rule.rule c.loop-rule-test.true in
     let short = rw c.in_err-at.ensures.ok_part at c.body_end.ensures in
     let value = rw c.in_err-at.ensures.ok_part at c.in_err-at.ensures.value in
     let is : c.in_err-at.field-0.0 ≡ Layout (c.loop-rule.rule + 1) = cc in
@@ -19,7 +19,7 @@ returns-in_err-at c =
 
 pub loop-rule-preserved : goal.loop-rule-preserved
 loop-rule-preserved c =
-    let place = contents_at c.args.numbers.now c.args.contents.now c.requires.listed c.requires.contents c.loop-rule.rule c.loop-rule-test.true in
+    let place = c.from.ensures ∙ contents_at c.args.numbers.now c.args.contents.now c.requires.listed c.requires.contents c.loop-rule.rule c.loop-rule-test.true in
     let body = rw c.in_ok-at.ensures.ok_part at c.body_end.ensures in
     lies_more c.args.numbers.now c.loop-rule.rule c.loop-rule.at c.in_ok-at.at c.loop-rule.invariant (sym place ∙ body.0, body.1, body.2)
 

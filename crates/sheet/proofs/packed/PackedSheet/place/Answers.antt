@@ -10,5 +10,5 @@ pub returns : goal.returns
 returns c =
     let one = c.in_ok-before.ensures in
     let ns = c.args.self.now.numbers.now in
-    let place : 2 + c.args.rule ≡ 3 + c.in_ok-before.before = omega (arith, one.0, one.1) in
-    subst (λ i. BodyAt ns c.args.rule (get_or ns i 0)) place (body_at ns c.args.self.now.lies c.args.rule (omega (arith, one.0)) (omega (arith, one.0, one.1)))
+    let place : 2 + c.args.rule ≡ 3 + c.from.result = omega (arith, one.0, one.1, c.from.ensures) in
+    rw c.from-2.ensures (subst (λ i. BodyAt ns c.args.rule (get_or ns i 0)) place (body_at ns c.args.self.now.lies c.args.rule (omega (arith, one.0)) (omega (arith, one.0, one.1))))

@@ -10,4 +10,4 @@ pub returns-clause-told : goal.returns-clause-told
 returns-clause-told c =
     let ns = c.args.self.now.numbers.now in
     let behind = c.in_ok-at.at + 2 in
-    c.in_ok-at.ensures.told ∙ ap (λ codes. Some (made (get_or ns c.in_ok-at.at 0) (take (get_or ns (c.in_ok-at.at + 1) 0) codes))) (sym (take_all (length ns - behind) (drop behind ns) (omega (arith, length-drop behind ns))))
+    rw c.from.ensures (c.in_ok-at.ensures.told ∙ ap (λ codes. Some (made (get_or ns c.in_ok-at.at 0) (take (get_or ns (c.in_ok-at.at + 1) 0) codes))) (sym (take_all (length ns - behind) (drop behind ns) (omega (arith, length-drop behind ns)))))
