@@ -20,6 +20,7 @@ fn explain_place(rt: &HostRuntime, text: &[u8], place: usize) -> io::Result<()> 
     )
 }
 
+// These words are no Display of the refusal: a line and a column need the text, and a refusal holds only the place.
 pub(crate) fn explain(rt: &HostRuntime, text: &[u8], refusal: Refusal) -> io::Result<()> {
     println!(rt; "refused {refusal}")?;
     match refusal {

@@ -32,14 +32,14 @@ fn print_body<S: RuleSheet>(rt: &HostRuntime, sheet: &S, rule: u16) -> io::Resul
 
 // The places of the bodies, each behind the one before it.
 fn print_contents<S: RuleSheet>(rt: &HostRuntime, sheet: &S) -> io::Result<()> {
-    let mut at = 3 + sheet.rules() as u32;
+    let mut at = 3 + u32::from(sheet.rules());
     let lengths = (1..=sheet.rules()).filter_map(|rule| sheet.length(rule));
     for (before, length) in lengths.enumerate() {
         if before > 0 {
             print!(rt; " ")?;
         }
         print!(rt; "{at}")?;
-        at = at.saturating_add(2 + length as u32);
+        at = at.saturating_add(2 + u32::from(length));
     }
     println!(rt; "")
 }
@@ -60,10 +60,8 @@ fn print_packed<S: RuleSheet>(rt: &HostRuntime, sheet: &S) -> io::Result<()> {
 
 // Each code from 1 up, with its spelling.
 fn print_spellings(rt: &HostRuntime, sheet: &WrittenSheet<'_>) -> io::Result<()> {
-    for code in 1..=u16::MAX {
-        let Some(spelling) = sheet.spelling(code) else {
-            break;
-        };
+    let spellings = (1..=u16::MAX).map_while(|code| Some((code, sheet.spelling(code)?)));
+    for (code, spelling) in spellings {
         print!(rt; "{code} ")?;
         rt.stdout().write_all(spelling)?;
         println!(rt; "")?;

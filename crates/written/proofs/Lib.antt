@@ -3,6 +3,7 @@ pub mod Laying
 pub mod FirstToken
 pub mod Indexes
 pub mod Walking
+pub mod FirstWord
 pub mod Distinct
 pub mod Drafting
 pub mod Overfull

@@ -54,7 +54,7 @@ impl Draft {
         Ok(())
     }
 
-    // The rule that is being read ends, and another with its left side begins.
+    // The rule that is being read ends, and another with its left side begins. `close` differs in what begins behind: nothing.
     fn divide(&mut self) -> Result<(), Full>
         ensures { Extends result (drafted self.new) (divided (drafted self.old)) }
     {

@@ -6,7 +6,7 @@ ghost use Rattle.std.specs.Prelude.{◌≡◌, ◌+◌, MatchOption, cond, nat_l
 // The most letters in a name, and the most bytes in a word.
 const LONGEST: u8 = 24;
 
-// How far a text has been read. The numbers are the letters or bytes of the token that is being read.
+// How far a text has been read: a state that the next byte leads on from, and no switch between steps. The numbers count the letters or bytes of the token that is being read.
 #[derive(Clone, Copy)]
 enum Stage {
     // Between statements.
@@ -37,7 +37,7 @@ fn longer(count: u8) -> Option<u8>
 fn step(stage: Stage, byte: u8) -> Option<Stage>
     ensures { result ≡ next stage byte }
 {
-    match (stage, byte as char) {
+    match (stage, char::from(byte)) {
         (Stage::Between, ' ' | '\n') => Some(Stage::Between),
         (Stage::Between, 'a'..='z' | 'A'..='Z') => Some(Stage::Head(1)),
         (Stage::Head(letters), 'a'..='z' | 'A'..='Z') => Some(Stage::Head(longer(letters)?)),

@@ -6,7 +6,7 @@ use super::tokens::Tokens;
 #[derive(Clone, Copy)]
 pub struct Heads<'a> {
     tokens: Tokens<'a>,
-    // Whether a statement may begin.
+    // Whether a statement may begin. A flag, as a state of the walk and not a kind of walk.
     between: bool,
 }
 
@@ -38,6 +38,7 @@ impl<'a> Iterator for Heads<'a> {
     ghost remaining = { λ s. at_most (bytes_left s.tokens) };
 
     fn next(&mut self) -> Option<&'a [u8]> {
+        // Not by `find_map`: the tokens that are passed over change `between` on the way.
         while let Some(token) = self.tokens.next() {
             match token {
                 Token::Name(_, head) if self.between => {

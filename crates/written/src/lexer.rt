@@ -29,13 +29,13 @@ pub struct Found<'a> {
 fn is_blank(b: u8) -> bool
     ensures { result ≡ blank b }
 {
-    matches!(b as char, ' ' | '\n')
+    matches!(char::from(b), ' ' | '\n')
 }
 
 fn is_letter(b: u8) -> bool
     ensures { result ≡ letter b }
 {
-    matches!(b as char, 'a'..='z' | 'A'..='Z')
+    matches!(char::from(b), 'a'..='z' | 'A'..='Z')
 }
 
 // The first place from `from` on whose byte does not pass.
@@ -58,7 +58,7 @@ pub(crate) fn next_token<'a>(text: &'a [u8], from: usize) -> Option<Found<'a>>
     if at >= text.len() {
         return None;
     }
-    match text[at] as char {
+    match char::from(text[at]) {
         ':' => Some(Found {
             token: Token::Mark(at, Mark::Colon),
             after: at + 1,

@@ -60,16 +60,15 @@ impl<'a> Names<'a> {
     pub(crate) fn word_code(&self, word: &[u8]) -> Option<u16>
         ensures { result ≡ word_code_told (spelled self.now.words) word.now }
     {
-        let at = self.words.position(word)?;
-        Some(1 + at as u16)
+        self.words.number(word)
     }
 
     // The code of a name that heads a statement.
     pub(crate) fn name_code(&self, name: &[u8]) -> Option<u16>
         ensures { result ≡ name_code_told (spelled self.now.words) (spelled self.now.heads) name.now }
     {
-        let at = self.heads.position(name)?;
-        Some(self.words() + 1 + at as u16)
+        let words = self.words();
+        self.heads.number(name).map(|number| words + number)
     }
 
     // The spelling of a code: of a word without its quotes, or of a head.
@@ -78,8 +77,8 @@ impl<'a> Names<'a> {
     {
         let at = code.checked_sub(1)?;
         match at.checked_sub(self.words()) {
-            None => self.words.get(at as usize),
-            Some(behind) => self.heads.get(behind as usize),
+            None => self.words.get(usize::from(at)),
+            Some(behind) => self.heads.get(usize::from(behind)),
         }
     }
 }

@@ -2,6 +2,7 @@
 ghost use Rattle.std.specs.Iterator.{IsFinite};
 ghost use Rattle.std.specs.List.{slice_get};
 ghost use Rattle.std.specs.Prelude.{◌≡◌, ◌<◌, ◌≤◌, IfSome, length, []};
+ghost use Rattle.written.specs.NamesOf.{word_code_told};
 ghost use Rattle.written.specs.Spelled.{Collects, Noted, bytes_of, place_in, spelled};
 
 use bounded::{BoundedList, Full};
@@ -50,7 +51,7 @@ impl<'a> Spellings<'a> {
     }
 
     // The number of the spelling, from 0, if it is there.
-    pub(crate) fn position(&self, spelling: &[u8]) -> Option<usize>
+    fn position(&self, spelling: &[u8]) -> Option<usize>
         ensures value { result ≡ place_in (spelled self.now) spelling.now }
         ensures few { IfSome result (λ i. i < 63) }
     {
@@ -58,6 +59,14 @@ impl<'a> Spellings<'a> {
             .as_slice()
             .iter()
             .position(|item| spelling == *item)
+    }
+
+    // The number of the spelling, from 1 as codes are, if it is there.
+    pub(crate) fn number(&self, spelling: &[u8]) -> Option<u16>
+        ensures value { result ≡ word_code_told (spelled self.now) spelling.now }
+        ensures few { IfSome result (λ n. n ≤ 63) }
+    {
+        self.position(spelling).map(|at| 1 + at as u16)
     }
 
     // One more spelling, unless it is there already.

@@ -34,11 +34,9 @@ impl<'a> Iterator for Words<'a> {
     ghost remaining = { λ s. at_most (bytes_left s.tokens) };
 
     fn next(&mut self) -> Option<&'a [u8]> {
-        while let Some(token) = self.tokens.next() {
-            if let Token::Word(_, word) = token {
-                return Some(word);
-            }
-        }
-        None
+        self.tokens.find_map(|token| match token {
+            Token::Word(_, word) => Some(word),
+            _ => None,
+        })
     }
 }

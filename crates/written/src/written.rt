@@ -87,7 +87,7 @@ impl<'a> WrittenSheet<'a> {
         ensures { option_map rule_of result ≡ rule_told (written_grammar self.now) rule }
     {
         let at = rule.checked_sub(1)?;
-        self.rules.get(at as usize)
+        self.rules.get(usize::from(at))
     }
 }
 
@@ -108,13 +108,11 @@ impl<'a> RuleSheet for WrittenSheet<'a> {
 
     // One reading each, since each asks the rule that was found for something else.
     fn left(&self, rule: u16) -> Option<u16> {
-        let found = self.numbered(rule)?;
-        Some(found.left())
+        self.numbered(rule).map(|found| found.left())
     }
 
     fn length(&self, rule: u16) -> Option<u16> {
-        let found = self.numbered(rule)?;
-        Some(found.length())
+        self.numbered(rule).map(|found| found.length())
     }
 
     fn code(&self, rule: u16, place: u16) -> Option<u16> {

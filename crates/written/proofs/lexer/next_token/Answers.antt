@@ -1,4 +1,4 @@
-use Rattle.std.proofs.Common.{◌≡◌, true, false, get_or, arith, rules}
+use Rattle.std.proofs.Common.{◌≡◌, true, false, sym, ◌∙◌, get_or, arith, rules}
 use Rattle.written.specs.Lexing.{not_quote}
 use Rattle.written.specs.Tokens.{blank, letter}
 use Rattle.written.proofs.Laying.{ended}
@@ -9,19 +9,19 @@ pub returns-then-at-text-clause-starts : goal.returns-then-at-text-clause-starts
 returns-then-at-text-clause-starts c = λ ts l. ended c.args.text.now c.args.from c.past-at.result (c.past-at.ensures.value blank (λ b r q. search rules)) ts l c.if-at-text.true
 
 pub returns-then-end-text-clause-starts : goal.returns-then-end-text-clause-starts
-returns-then-end-text-clause-starts c = λ ts l. absurd (omega (arith, (at_word c.args.text.now c.args.from c.past-at.result (c.past-at.ensures.value blank (λ b r q. search rules)) ts l c.if-at-text.false c.past-end.result (c.past-end.ensures.value not_quote (λ b r q. search rules)) c.in-34.is).0))
+returns-then-end-text-clause-starts c = λ ts l. absurd (omega (arith, (at_word c.args.text.now c.args.from c.past-at.result (c.past-at.ensures.value blank (λ b r q. search rules)) ts l c.if-at-text.false c.past-end.result (c.past-end.ensures.value not_quote (λ b r q. search rules)) (sym c.from.ensures ∙ c.in-34.is)).0))
 
 pub returns-in-58-clause-starts : goal.returns-in-58-clause-starts
-returns-in-58-clause-starts c = λ ts l. let B = at_colon c.args.text.now c.args.from c.past-at.result (c.past-at.ensures.value blank (λ b r q. search rules)) ts l c.if-at-text.false c.in-58.is in (B.others, B.is, B.laid)
+returns-in-58-clause-starts c = λ ts l. let B = at_colon c.args.text.now c.args.from c.past-at.result (c.past-at.ensures.value blank (λ b r q. search rules)) ts l c.if-at-text.false (sym c.from.ensures ∙ c.in-58.is) in (B.others, B.is, B.laid)
 
 pub returns-in-124-clause-starts : goal.returns-in-124-clause-starts
-returns-in-124-clause-starts c = λ ts l. let B = at_bar c.args.text.now c.args.from c.past-at.result (c.past-at.ensures.value blank (λ b r q. search rules)) ts l c.if-at-text.false c.in-124.is in (B.others, B.is, B.laid)
+returns-in-124-clause-starts c = λ ts l. let B = at_bar c.args.text.now c.args.from c.past-at.result (c.past-at.ensures.value blank (λ b r q. search rules)) ts l c.if-at-text.false (sym c.from.ensures ∙ c.in-124.is) in (B.others, B.is, B.laid)
 
 pub returns-in-59-clause-starts : goal.returns-in-59-clause-starts
-returns-in-59-clause-starts c = λ ts l. let B = at_semicolon c.args.text.now c.args.from c.past-at.result (c.past-at.ensures.value blank (λ b r q. search rules)) ts l c.if-at-text.false c.in-59.is in (B.others, B.is, B.laid)
+returns-in-59-clause-starts c = λ ts l. let B = at_semicolon c.args.text.now c.args.from c.past-at.result (c.past-at.ensures.value blank (λ b r q. search rules)) ts l c.if-at-text.false (sym c.from.ensures ∙ c.in-59.is) in (B.others, B.is, B.laid)
 
 pub returns-else-end-text-clause-starts : goal.returns-else-end-text-clause-starts
-returns-else-end-text-clause-starts c = λ ts l. let W = at_word c.args.text.now c.args.from c.past-at.result (c.past-at.ensures.value blank (λ b r q. search rules)) ts l c.if-at-text.false c.past-end.result (c.past-end.ensures.value not_quote (λ b r q. search rules)) c.in-34.is in (W.1, W.2, W.3)
+returns-else-end-text-clause-starts c = λ ts l. let W = at_word c.args.text.now c.args.from c.past-at.result (c.past-at.ensures.value blank (λ b r q. search rules)) ts l c.if-at-text.false c.past-end.result (c.past-end.ensures.value not_quote (λ b r q. search rules)) (sym c.from.ensures ∙ c.in-34.is) in (W.1, W.2, W.3)
 
 pub returns-in-a-to-z-clause-starts : goal.returns-in-a-to-z-clause-starts
 returns-in-a-to-z-clause-starts c =
