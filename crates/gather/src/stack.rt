@@ -3,7 +3,8 @@ ghost use Rattle.std.specs.Prelude.{◌≡◌, ℕ, ◌<◌, ◌≤◌, List, []
 use super::walk::PLACES;
 use std::marker::Model;
 
-// A stack of places. No bounded list, since the walk reads a stack from a height on and cuts it off there.
+// A stack of places, in an array with a count, and so with no heap.
+// The walk reads the places from a height on where they lie, and cuts the stack off there; a bounded list only grows.
 #[derive(Drop)]
 pub(crate) struct Stack {
     places: [usize; PLACES],
@@ -41,7 +42,7 @@ impl Stack {
         requires { length self.old < 2304 }
         ensures { self.new ≡ self.old ++ place ∷ [] }
     {
-        self.places[self.height as usize] = place;
+        self.places[usize::from(self.height)] = place;
         self.height += 1;
     }
 
@@ -50,7 +51,7 @@ impl Stack {
         requires { low ≤ length self.now }
         ensures { result.now ≡ drop low self.now }
     {
-        &self.places[low as usize..self.height as usize]
+        &self.places[usize::from(low)..usize::from(self.height)]
     }
 
     // Takes the places from height `low` on off the stack.

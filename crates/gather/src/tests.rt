@@ -65,6 +65,7 @@ fn marks(rt: &impl Abort, name: &str, targets: &[(usize, usize)], reached: &[u64
 
 fn both(rt: &impl Abort, name: &str, targets: &[(usize, usize)], reached: &[u64]) {
     sets(rt, name, targets, reached);
+    // By number, since it is the place itself that is tried: it is marked, and its bit is looked at.
     for from in 0..reached.len() {
         marks(rt, name, targets, reached, from);
     }

@@ -34,6 +34,8 @@ fn complete<J: Join>(values: &mut [J], visits: &mut [Visit], places: &[usize], v
 impl<'a, J: Join> Walk<'a, J> {
     // A walk that has seen nothing.
     pub(crate) fn new(values: &'a mut [J]) -> Walk<'a, J>
+        // `lent`, here and in what changes a walk: a walk holds the list that it was lent, to which its values go back.
+        // No fact of a walk says so, since it ties the walk after a call to that before it.
         ensures lent { result.values.ghost_name ≡ values.entry.ghost_name }
         ensures held { result.values.now ≡ values.old }
         ensures empty { result.stack ≡ [] }

@@ -1,6 +1,7 @@
 -- Where states in arrays lead, and which items they have.
 use Rattle.std.proofs.Common.{◌≡◌, ℕ, ◌+◌, ◌*◌, ◌<◌, ◌≤◌, Bool, true, false, ◌&&◌, ltb, leb, get_or, sym, ap, ◌∙◌, subst, inl, inr, arith, Some, None}
-use Rattle.std.proofs.lemmas.Bool.{and_parts, and_from, and_left, and_right, ltb-true, leb-true, lt-ltb, le-ltb, le-leb, lt-leb, cond-true, cond-false, cases_Bool}
+use Rattle.std.specs.Bool.{then_some}
+use Rattle.std.proofs.lemmas.Bool.{and_parts, and_from, and_left, and_right, ltb-true, ltb-false, leb-true, lt-ltb, le-ltb, le-leb, lt-leb, cond-true, cond-false, cases_Bool}
 use Rattle.std.proofs.lemmas.Option.{same_Some, none-some}
 use Rattle.grammar.specs.Grammar.{Grammar}
 use Rattle.grammar.specs.StateLists.{state_at, goto_at, has_at, leads_at}
@@ -57,7 +58,7 @@ module _ (R : Rules) (S : States) where
   pub goto_target : (s X t : ℕ) → Some t ≡ (automaton R S).goto s X → t < n
   goto_target s X t e = (goto_moves s X t (sym e)).to
 
-  pub goto_some : (s X : ℕ) → s < n → 1 ≤ X → X ≤ R.terminals + R.nonterminals → entry s X < n → Some (entry s X) ≡ (automaton R S).goto s X
+  goto_some : (s X : ℕ) → s < n → 1 ≤ X → X ≤ R.terminals + R.nonterminals → entry s X < n → Some (entry s X) ≡ (automaton R S).goto s X
   unfolding leads_at
   goto_some s X l low high b =
       sym (cond-true (test s X) (Some (entry s X)) None (and_from (ltb s n) _ (lt-ltb s n l) (and_from (leb 1 X) _ (le-leb 1 X low) (and_from (leb X top) _ (le-leb X top (subst (λ m. X ≤ m) (sym codes_count) high)) (lt-ltb (entry s X) n b)))))
@@ -76,9 +77,17 @@ module _ (R : Rules) (S : States) where
   goto_high s X h =
       goto_fails s X (and_right (ltb s n) _ (and_right (leb 1 X) _ (and_left (leb X top) _ (lt-leb X top (subst (λ m. m < X) (sym codes_count) h)))))
 
-  pub goto_nowhere : (s X : ℕ) → n ≤ entry s X → None ≡ (automaton R S).goto s X
+  goto_nowhere : (s X : ℕ) → n ≤ entry s X → None ≡ (automaton R S).goto s X
   goto_nowhere s X h =
       goto_fails s X (and_right (ltb s n) _ (and_right (leb 1 X) _ (and_right (leb X top) _ (le-ltb (entry s X) n h))))
+
+  -- The entry is told where it is a state's number.
+  pub goto_told : (s X : ℕ) → s < n → 1 ≤ X → X ≤ R.terminals + R.nonterminals → then_some (ltb (entry s X) n) (entry s X) ≡ (automaton R S).goto s X
+  goto_told s X l low high =
+      elim (cases_Bool (ltb (entry s X) n)) [
+        | inl t ↦ ap (λ b. then_some b (entry s X)) t ∙ goto_some s X l low high (ltb-true (entry s X) n t)
+        | inr f ↦ ap (λ b. then_some b (entry s X)) f ∙ goto_nowhere s X (ltb-false (entry s X) n f)
+      ]
 
   pub one_goto : (s X : ℕ) {t u : ℕ} → (automaton R S).goto s X ≡ Some t → (automaton R S).goto s X ≡ Some u → t ≡ u
   one_goto s X e f = same_Some _ _ (sym e ∙ f)

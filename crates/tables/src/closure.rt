@@ -11,9 +11,9 @@ pub(crate) fn waiting(rules: &Rules, items: &[bool; 873]) -> [bool; 88]
     ensures { Waiting rules.now items.now result }
 {
     let mut ahead = [false; 88];
-    for (i, is_in) in items[..9 * rules.count as usize + 9].iter().enumerate() {
+    for (i, is_in) in items[..9 * usize::from(rules.count) + 9].iter().enumerate() {
         if *is_in {
-            ahead[rules.right[i] as usize] = true;
+            ahead[usize::from(rules.right[i])] = true;
         }
     }
     ahead
@@ -27,9 +27,9 @@ fn sweep(rules: &Rules, ahead: &mut [bool; 88]) -> bool
 {
     let mut more = false;
     // The rules' numbers are what is looked at here: a rule's items stand from 9 times its number on.
-    for q in 1..rules.count as usize + 1 {
-        let first = rules.right[9 * q] as usize;
-        if ahead[rules.left[q] as usize] && !ahead[first] {
+    for q in 1..usize::from(rules.count) + 1 {
+        let first = usize::from(rules.right[9 * q]);
+        if ahead[usize::from(rules.left[q])] && !ahead[first] {
             ahead[first] = true;
             more = true;
         }
@@ -53,8 +53,8 @@ pub(crate) fn complete(rules: &Rules, items: &mut [bool; 873])
 {
     let ahead = ahead_of(rules, items);
     // By rule numbers, as above.
-    for q in 1..rules.count as usize + 1 {
-        if ahead[rules.left[q] as usize] {
+    for q in 1..usize::from(rules.count) + 1 {
+        if ahead[usize::from(rules.left[q])] {
             items[9 * q] = true;
         }
     }

@@ -13,14 +13,14 @@ fn right_marked(rules: &Rules, marks: &[bool; 88], r: usize) -> bool
     requires { r ≤ 96 }
     ensures { Decides result (RightMarked rules.now marks.now r) }
 {
-    rules.codes(r).iter().all(|code| marks[*code as usize])
+    rules.codes(r).iter().all(|code| marks[usize::from(*code)])
 }
 
 // A rule whose right side is marked and whose left side is not.
 fn lacking(rules: &Rules, marks: &[bool; 88]) -> Option<usize>
     ensures { MatchOption result (NoneLacks rules.now marks.now (rules.now.count + 1)) (λ q. Lacks rules.now marks.now q) }
 {
-    (1..rules.count as usize + 1).find(|&r| !marks[rules.left[r] as usize]
+    (1..usize::from(rules.count) + 1).find(|&r| !marks[usize::from(rules.left[r])]
         && right_marked(rules, marks, r))
 }
 
@@ -31,7 +31,7 @@ fn first_codes(words: u8) -> [bool; 88]
 {
     let mut marks = [false; 88];
     for (code, mark) in marks.iter_mut().enumerate() {
-        *mark = 1 <= code && code <= words as usize;
+        *mark = 1 <= code && code <= usize::from(words);
     }
     marks
 }
@@ -46,7 +46,7 @@ pub(crate) fn derive_words(rules: &Rules, words: u8) -> [bool; 88]
 {
     let mut marks = first_codes(words);
     while let Some(r) = lacking(rules, &marks) {
-        marks[rules.left[r] as usize] = true;
+        marks[usize::from(rules.left[r])] = true;
     }
     marks
 }

@@ -11,7 +11,8 @@ use super::rules::Rules;
 use super::step::{Step, Steps};
 use bounded::BoundedList;
 
-// Which codes are nullable stands beside the machine, and as a `requires`: a ghost field takes a fact with one proof alone, and a nullable code has one for each of its trees.
+// That the marks are right is a `requires`, and no ghost field of a struct with the machine: such a field takes a fact that has at most one proof, and a nullable code has one for each of its trees.
+// A truncated fact, `∥ .. ∥₁`, would say only that there are trees, and not give them out. The contracts here need the trees themselves: each listed step comes with those of the codes behind its dot.
 
 // The loops over states and rules go by number: the machine is asked by both.
 

@@ -32,7 +32,7 @@ fn lengths<S: RuleSheet>(sheet: &S) -> Result<[u8; 97], Refusal>
         if length > 8 {
             return Err(Refusal::Limits);
         }
-        size[rule as usize] = length as u8;
+        size[usize::from(rule)] = length as u8;
     }
     Ok(size)
 }
@@ -71,13 +71,13 @@ fn sides<S: RuleSheet>(sheet: &S, size: [u8; 97]) -> Result<Rules, Refusal>
         if side <= terminals || side > top {
             return Err(Refusal::Range { rule });
         }
-        let r = rule as usize;
+        let r = usize::from(rule);
         left[r] = side as u8;
         codes(
             sheet,
             rule,
             top,
-            &mut right[9 * r..9 * r + size[r] as usize],
+            &mut right[9 * r..9 * r + usize::from(size[r])],
         )?;
     }
     Ok(Rules {

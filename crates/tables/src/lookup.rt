@@ -24,6 +24,7 @@ fn fingerprint(items: &[bool; 873], end: usize) -> u64
     let mut sum = 0;
     for (i, is_in) in items[..end].iter().enumerate() {
         if *is_in {
+            // A cast, since there is no `From` from `usize` to `u64`.
             let n = i as u64;
             sum += n * n * n;
         }

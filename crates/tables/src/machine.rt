@@ -32,11 +32,7 @@ impl Machine {
             return None;
         }
         let target = usize::from(self.states.gotos[88 * state + code]);
-        if target < self.states.count {
-            Some(target)
-        } else {
-            None
-        }
+        (target < self.states.count).then_some(target)
     }
 
     // Whether a state has the item of a rule and a dot.

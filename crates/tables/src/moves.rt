@@ -10,7 +10,7 @@ pub(crate) fn advance(rules: &Rules, items: &[bool; 873], code: u8) -> [bool; 87
     ensures { BehindAt rules.now.right items.now code result }
 {
     let mut moved = [false; 873];
-    for (i, is_in) in items[..9 * rules.count as usize + 8].iter().enumerate() {
+    for (i, is_in) in items[..9 * usize::from(rules.count) + 8].iter().enumerate() {
         if *is_in && rules.right[i] == code {
             moved[i + 1] = true;
         }

@@ -20,7 +20,7 @@ fn begin(rules: &Rules) -> Lookup
     let mut items = [false; 873];
     items[0] = true;
     complete(rules, &mut items);
-    Lookup::new(items, 9 * rules.count as usize + 9)
+    Lookup::new(items, 9 * usize::from(rules.count) + 9)
 }
 
 // The entry of a state at a code; refused if a 97th state is needed.
@@ -39,12 +39,12 @@ fn entry(
 {
     // 255 is nowhere, as `States` says.
     let mut to = 255;
-    if ahead[code as usize] {
+    if ahead[usize::from(code)] {
         let mut items = advance(rules, from, code);
         complete(rules, &mut items);
         to = lookup.place(&items).ok_or(Refusal::States)? as u8;
     }
-    lookup.states.gotos[88 * s + code as usize] = to;
+    lookup.states.gotos[88 * s + usize::from(code)] = to;
     Ok(())
 }
 

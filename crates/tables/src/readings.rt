@@ -26,7 +26,7 @@ impl Tables {
         self.full.is_none()
     }
 
-    // One line each below: what a common reading would be given is all that each is.
+    // The readings below differ in the field or method that they name, and have nothing else: a common function would have to be given just that.
 
     // The number of states; 0 for blank tables.
     pub fn states(&self) -> usize

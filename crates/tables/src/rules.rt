@@ -1,8 +1,8 @@
 // The rules of a grammar within the limits and with all codes in range, in fixed arrays.
 ghost use Rattle.std.specs.Prelude.{◌≡◌, ℕ, ◌+◌, ◌*◌, ◌<◌, ◌≤◌, All, length, slice_index};
 
-// `left` and `size` go by rule. `right` goes by item, 9 * rule + dot: the code behind the dot, 0 at the end, which is the end mark and in no right side. Rule 0 is the start alone.
-// One array of rules would part `right`, which sets of items are set beside, item by item.
+// `left` and `size` go by rule number, and rule 0, which is the start alone, has no left side. They are two arrays, since all lengths are read before the first left side: limits come before ranges.
+// `right` goes by item: at 9 * rule + dot is the code behind the dot, or 0 at the end, which is the end mark and in no right side. All right sides lie in this one array, since sets of items and the proofs speak of that place.
 #[derive(Clone, Copy)]
 pub struct Rules {
     pub terminals: u8,
@@ -40,6 +40,6 @@ impl Rules {
         ensures codes { result.now ≡ codes_at self.now r }
         ensures below { All (λ code. code < 88) result.now }
     {
-        &self.right[9 * r..9 * r + self.size[r] as usize]
+        &self.right[9 * r..9 * r + usize::from(self.size[r])]
     }
 }

@@ -1,8 +1,8 @@
 // The numbered states, in fixed arrays.
 ghost use Rattle.std.specs.Prelude.{◌≡◌, ◌≤◌, length, replicate};
 
-// `sets` goes by state, and then by item, 9 * rule + dot. `gotos` goes by 88 * state + code.
-// Two arrays by number, as the mathematics numbers states: its proofs read sets and gotos as two lists, into which one array of states would have to be taken apart.
+// `sets` goes by state, and then by item, 9 * rule + dot. `gotos` is flat: where a state leads by a code stands at 88 * state + code, which is where the definitions of `grammar` look for it in one list.
+// Two arrays and not one of states, since those definitions and their proofs read sets and gotos as two lists.
 // No option stands for nowhere: any number that is no state's is read as nowhere, by the one test that a goto needs anyway, and 255 is such a number.
 #[derive(Drop)]
 pub struct States {

@@ -17,7 +17,7 @@ fn stands_in(rules: &Rules, r: usize, code: usize) -> bool
     requires { r ≤ 96 }
     ensures { result ≡ list_any (λ c. c == code) (codes_at rules.now r) }
 {
-    rules.codes(r).iter().any(|&c| c as usize == code)
+    rules.codes(r).iter().any(|&c| usize::from(c) == code)
 }
 
 // What uses the code by the rule: its left side, where the code stands on its right, and else only the code itself.
@@ -26,7 +26,7 @@ fn user(rules: &Rules, r: usize, code: usize) -> usize
     ensures { result ≡ user_by rules.now code r }
 {
     if stands_in(rules, r, code) {
-        rules.left[r] as usize
+        usize::from(rules.left[r])
     } else {
         code
     }
@@ -42,7 +42,7 @@ impl<'a> Relation for UsedBy<'a> {
     ghost targets = { λ s place. users s.rules.now place };
 
     fn next(&self, place: usize, k: usize) -> Option<usize> {
-        if k >= self.rules.count as usize {
+        if k >= usize::from(self.rules.count) {
             return None;
         }
         Some(user(self.rules, k + 1, place))
@@ -54,7 +54,7 @@ fn start_mark(rules: &Rules) -> [Mark; 88]
     ensures { StartYes rules.now result }
 {
     let mut marks = [Mark::NONE; 88];
-    marks[rules.terminals as usize + 1] = Mark::from(true);
+    marks[usize::from(rules.terminals) + 1] = Mark::from(true);
     marks
 }
 
@@ -73,7 +73,7 @@ fn both_marked(productive: &[bool; 88], used: &[Mark; 88], code: u8) -> bool
     requires { code < 88 }
     ensures { Decides result (Marked productive.now code × IsYes used.now code) }
 {
-    productive[code as usize] && bool::from(used[code as usize])
+    productive[usize::from(code)] && bool::from(used[usize::from(code)])
 }
 
 // The lowest nonterminal that lacks one of the two marks.

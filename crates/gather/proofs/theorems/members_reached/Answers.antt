@@ -1,5 +1,5 @@
 use Rattle.gather.proofs.Tracing.{members_reached}
 use Rattle.gather.proofs.theorems.members_reached.Goals as goal
 
-pub returns : goal.returns
-returns c = members_reached
+pub returns-clause-theorem : goal.returns-clause-theorem
+returns-clause-theorem c = members_reached

@@ -1,5 +1,5 @@
 use Rattle.gather.specs.Sets.{by_members}
 use Rattle.gather.proofs.theorems.sets_by_members.Goals as goal
 
-pub returns : goal.returns
-returns c = by_members
+pub returns-clause-theorem : goal.returns-clause-theorem
+returns-clause-theorem c = by_members

@@ -10,10 +10,10 @@ pub loop-r-init : goal.loop-r-init
 loop-r-init c = begun c.args.rules.now c.args.words c.first_codes-marks.result c.requires (omega arith) c.first_codes-marks.ensures
 
 pub loop-r-smaller : goal.loop-r-smaller
-loop-r-smaller c = fewer c.args.rules.now c.args.words c.loop-r.marks c.in-Some.r c.loop-r.invariant c.in-Some.ensures
+loop-r-smaller c = rw c.from.ensures (fewer c.args.rules.now c.args.words c.loop-r.marks c.in-Some.r c.loop-r.invariant c.in-Some.ensures)
 
 pub loop-r-preserved : goal.loop-r-preserved
-loop-r-preserved c = round c.args.rules.now c.args.words c.loop-r.marks c.in-Some.r c.loop-r.invariant c.in-Some.ensures
+loop-r-preserved c = rw c.from.ensures (round c.args.rules.now c.args.words c.loop-r.marks c.in-Some.r c.loop-r.invariant c.in-Some.ensures)
 
 pub returns : goal.returns
 returns c =

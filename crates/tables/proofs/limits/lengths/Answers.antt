@@ -26,4 +26,4 @@ loop-rule-preserved g c =
     let G = g.S.RuleSheet.meaning c.args.sheet.now in
     let r = c.loop-rule.rule in
     let is = length_read G r c.unwrap_or-length.result c.length.result (omega arith) c.unwrap_or-length.ensures c.length.ensures in
-    lengths_more G r c.unwrap_or-length.result c.loop-rule.size c.loop-rule.invariant (omega arith) is (omega arith)
+    rw c.from.ensures (lengths_more G r c.unwrap_or-length.result c.loop-rule.size c.loop-rule.invariant (omega arith) is (omega arith))

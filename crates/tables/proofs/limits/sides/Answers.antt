@@ -1,4 +1,4 @@
-use Rattle.std.proofs.Common.{◌≡◌, suc, ◌+◌, ◌-◌, ◌<◌, length, rules, subst, arith}
+use Rattle.std.proofs.Common.{◌≡◌, suc, ◌+◌, ◌-◌, ◌<◌, length, rules, get_or, ap, subst, arith}
 use Rattle.grammar.specs.Outcome.{Outcome, refused, out_of_range}
 use Rattle.tables.specs.SheetArrays.{Sides, Lengths}
 use Rattle.tables.proofs.SheetArrays.{left_read}
@@ -27,9 +27,10 @@ loop-rule-preserved g c =
     let r = c.loop-rule.rule in
     let b : r < suc (length G.rules) = omega arith in
     let is = left_read G r c.unwrap_or-side.result c.left.result (omega arith) c.unwrap_or-side.ensures c.left.ensures in
-    sides_more G r c.unwrap_or-side.result _ c.loop-rule.left c.loop-rule.right c.codes.new.right c.loop-rule.invariant (omega arith) (omega (arith, c.requires.within.counts.rules)) is
+    let same = ap (λ i. get_or c.args.size i 0) c.from-r.ensures in
+    rw c.from-r.ensures (sides_more G r c.unwrap_or-side.result _ c.loop-rule.left c.loop-rule.right c.codes.new.right c.loop-rule.invariant (omega arith) (omega (arith, c.requires.within.counts.rules)) is
     (record { low = omega arith; high = omega arith })
-    (omega (arith, c.requires.lengths.short r b)) (omega (arith, c.requires.lengths.below r b)) c.in_ok-codes.ensures.0 c.in_ok-codes.ensures.1
+    (omega (arith, c.requires.lengths.short r b, same)) (omega (arith, c.requires.lengths.below r b, same)) c.in_ok-codes.ensures.0 c.in_ok-codes.ensures.1)
 
 pub invariant_of-result : goal.invariant_of-result
 invariant_of-result g c =

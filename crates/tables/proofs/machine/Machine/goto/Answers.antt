@@ -1,5 +1,6 @@
-use Rattle.std.proofs.Common.{Some, ap, ◌∙◌, arith}
-use Rattle.tables.proofs.Gotos.{goto_some, goto_past, goto_low, goto_high, goto_nowhere}
+use Rattle.std.proofs.Common.{ltb, ap, ◌∙◌, arith}
+use Rattle.std.specs.Bool.{then_some}
+use Rattle.tables.proofs.Gotos.{goto_past, goto_low, goto_high, goto_told}
 use Rattle.tables.proofs.machine.Machine.goto.Goals as goal
 use Rattle.tables.proofs.machine.Machine.goto.Goals.{then-state-self-via-then-state-self, then-state-self-via-else-state-self+then-code-eq0, then-state-self-via-else-state-self+else-code-eq0+then-code-codes}
 
@@ -13,12 +14,9 @@ returns-then-state-self c =
       | then-state-self-via-else-state-self+else-code-eq0+then-code-codes w ↦ goto_high R S c.args.state c.args.code (omega (arith, w.if-code-codes.true, c.from-codes.ensures))
     ]
 
-pub returns-then-target-self : goal.returns-then-target-self
-returns-then-target-self c =
+pub returns : goal.returns
+returns c =
     let m = c.args.self.now in
-    ap Some c.from-target.ensures ∙ goto_some m.rules m.states c.args.state c.args.code c.if-state-self.false (omega (arith, c.if-code-eq0.false)) (omega (arith, c.if-code-codes.false, c.from-codes.ensures)) (omega (arith, c.if-target-self.true, c.from-target.ensures))
-
-pub returns-else-target-self : goal.returns-else-target-self
-returns-else-target-self c =
-    let m = c.args.self.now in
-    goto_nowhere m.rules m.states c.args.state c.args.code (omega (arith, c.if-target-self.false, c.from-target.ensures))
+    c.then_some.ensures
+    ∙ ap (λ t. then_some (ltb t m.states.count) t) c.from-target.ensures
+    ∙ goto_told m.rules m.states c.args.state c.args.code c.if-state-self.false (omega (arith, c.if-code-eq0.false)) (omega (arith, c.if-code-codes.false, c.from-codes.ensures))
