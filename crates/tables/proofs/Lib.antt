@@ -41,3 +41,5 @@ pub mod FilledCells
 pub mod Outcomes
 pub mod RuleReadings
 pub mod HeldTables
+pub mod Admissions
+pub mod StateItems

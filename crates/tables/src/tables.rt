@@ -53,6 +53,7 @@ impl Tables {
     }
 
     // Builds the tables of any sheet, whatever they held before; refused, they are blank.
+    #[tactic(auto, using(crate::proofs::Admissions::unread_told, crate::proofs::Outcomes::built_tables))]
     pub fn build<S: RuleSheet>(&mut self, sheet: &S) -> Result<(), Refusal>
         ensures { BuiltFrom (S.RuleSheet.meaning sheet.now) result (held self.new) }
     {
