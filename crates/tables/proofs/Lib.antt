@@ -41,3 +41,6 @@ pub mod FilledCells
 pub mod Outcomes
 pub mod RuleReadings
 pub mod HeldTables
+pub mod OnlyBuilds
+pub mod Admissions
+pub mod StateItems

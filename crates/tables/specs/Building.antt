@@ -28,3 +28,7 @@ Tabled G (Err e) = Outcome G (refused e)
 abbrev pub BuiltFrom : Grammar → Result (Unit {0}) Refusal → Held → Type 0
 BuiltFrom G (Ok x) h = ∥ ((n : ℕ) × (A : Automaton) × (cells : ℕ → ℕ → Option Action) × (h ≡ holding G n A cells) × Outcome G (built n A cells)) ∥₁
 BuiltFrom G (Err e) h = (h ≡ blank) × Outcome G (refused e)
+
+-- Nothing else is built from the grammar: whatever building it comes to is just this result, with just this held.
+pub record OnlyBuild (G : Grammar) (r : Result (Unit {0}) Refusal) (h : Held) : Type 0 where
+  pub same : (r' : Result (Unit {0}) Refusal) (h' : Held) → BuiltFrom G r' h' → (r' ≡ r) × (h' ≡ h)

@@ -24,3 +24,4 @@ pub mod Held
 pub mod Building
 pub mod Numbering
 pub mod HeldReadings
+pub mod StateItems

@@ -10,6 +10,7 @@ mod full;
 mod grouped;
 mod grouping;
 mod includes;
+mod items;
 mod limits;
 mod lookahead;
 mod lookup;
@@ -27,4 +28,5 @@ mod step;
 mod tables;
 mod useful;
 
+pub use items::{Items, items_of};
 pub use tables::Tables;

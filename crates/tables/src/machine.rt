@@ -16,7 +16,7 @@ pub struct Machine {
 }
 
 // Whether a set has the item of a rule and a dot.
-fn in_set(items: &[bool; 873], rule: usize, dot: usize) -> bool
+pub(crate) fn in_set(items: &[bool; 873], rule: usize, dot: usize) -> bool
     ensures { result ≡ items_of items.now rule dot }
 {
     rule <= 96 && dot <= 8 && items[9 * rule + dot]

@@ -1,6 +1,6 @@
 // Tables: blank, or rules with exactly their tables.
 ghost use Rattle.tables.specs.Arrays.{grammar_of};
-ghost use Rattle.tables.specs.Building.{BuiltFrom, Tabled, held};
+ghost use Rattle.tables.specs.Building.{BuiltFrom, OnlyBuild, Tabled, held};
 ghost use Rattle.tables.specs.Numbering.{UsefulNumbering};
 ghost use Rattle.tables.specs.Held.{Held};
 ghost use Rattle.std.specs.Prelude.{◌≡◌};
@@ -53,8 +53,10 @@ impl Tables {
     }
 
     // Builds the tables of any sheet, whatever they held before; refused, they are blank.
+    #[tactic(auto, using(crate::proofs::Admissions::unread_told, crate::proofs::Outcomes::built_tables, crate::proofs::OnlyBuilds::only_build))]
     pub fn build<S: RuleSheet>(&mut self, sheet: &S) -> Result<(), Refusal>
-        ensures { BuiltFrom (S.RuleSheet.meaning sheet.now) result (held self.new) }
+        ensures is { BuiltFrom (S.RuleSheet.meaning sheet.now) result (held self.new) }
+        ensures alone { OnlyBuild (S.RuleSheet.meaning sheet.now) result (held self.new) }
     {
         self.full = None;
         let full = of_rules(read(sheet)?)?;

@@ -1,5 +1,6 @@
 use Rattle.std.proofs.Common.{arith}
-use Rattle.grammar.specs.Outcome.{Within, off_limits}
+use Rattle.grammar.specs.Outcome.{Within}
+use Rattle.tables.specs.Admitted.{off_limits}
 use Rattle.tables.proofs.SheetArrays.{length_read, lengths_first, lengths_more, too_long}
 use Rattle.tables.proofs.limits.lengths.Goals as goal
 

@@ -1,5 +1,5 @@
 use Rattle.std.proofs.Common.{◌≡◌, suc, ◌+◌, ◌-◌, ◌<◌, length, rules, get_or, ap, subst, arith}
-use Rattle.grammar.specs.Outcome.{Outcome, refused, out_of_range}
+use Rattle.tables.specs.Admitted.{Unread, out_of_range}
 use Rattle.tables.specs.SheetArrays.{Sides, Lengths}
 use Rattle.tables.proofs.SheetArrays.{left_read}
 use Rattle.tables.proofs.SheetRules.{sides_first, sides_more, lowest, kept, read_grammar}
@@ -18,7 +18,7 @@ returns-then-side-terminals g c =
 pub returns-in_err-codes : goal.returns-in_err-codes
 returns-in_err-codes g c =
     let G = g.S.RuleSheet.meaning c.args.sheet.now in
-    let told : Outcome G (refused c.in_err-codes.field-0.0) = rw c.in_err-codes.ensures.0 (out_of_range c.requires.within (lowest G c.loop-rule.rule c.loop-rule.left c.loop-rule.right c.loop-rule.invariant (omega arith) (omega arith) λ range. c.in_err-codes.ensures.1 range.right)) in
+    let told : Unread G c.in_err-codes.field-0.0 = rw c.in_err-codes.ensures.0 (out_of_range c.requires.within (lowest G c.loop-rule.rule c.loop-rule.left c.loop-rule.right c.loop-rule.invariant (omega arith) (omega arith) λ range. c.in_err-codes.ensures.1 range.right)) in
     search rules
 
 pub loop-rule-preserved : goal.loop-rule-preserved
