@@ -1,5 +1,5 @@
 -- The laws of the layout: packed and off exclude each other, and each at one value only.
-use Rattle.std.proofs.Common.{◌≡◌, ℕ, ◌+◌, ◌<◌, ◌≤◌, List, length, get_or, take, drop, sym, refl, ap, ◌∙◌, subst, arith}
+use Rattle.std.proofs.Common.{◌≡◌, ℕ, ◌+◌, ◌<◌, ◌≤◌, List, length, get_or, take, drop, sym, refl, ap, ◌∙◌, subst, arith, rules, Option, Some, None, MatchOption}
 use native.Mathlib.Decide.{dec_lt}
 use Rattle.std.proofs.lemmas.List.{get_or-drop, get_or-take, length-drop, length-take-le}
 use Rattle.grammar.specs.Grammar.{Grammar}
@@ -22,6 +22,11 @@ not_off G k (behind listed all more) = let there = packed_full G in omega arith
 pub refused_at : (ns : List ℕ) (k : ℕ) → Off ns k → Refused ns (Layout k)
 refused_at ns k off = (tells off, λ G e. not_off G k (subst (λ l. Off l k) e off))
 
+-- counts or contents that are not all there
+pub contents_off : {X : Type 0} (P : X → Type 0) (ns : List ℕ) (o : Option X) → MatchOption o (length ns < 3 + stated ns) P → o ≡ None → Refused ns (Layout 0)
+contents_off P ns (Some x) found none = absurd (search (rules, none))
+contents_off P ns None found none = refused_at ns 0 (missing found)
+
 -- the contents, where they are all there
 module _ (ns cs : List ℕ) (listed : 3 + stated ns ≤ length ns) (is : cs ≡ take (stated ns) (drop 3 ns)) where
   pub contents_length : length cs ≡ stated ns
@@ -29,6 +34,14 @@ module _ (ns cs : List ℕ) (listed : 3 + stated ns ≤ length ns) (is : cs ≡ 
 
   pub contents_at : (r : ℕ) → r < length cs → get_or cs r 0 ≡ get_or ns (3 + r) 0
   contents_at r h = ap (λ l. get_or l r 0) is ∙ get_or-take (stated ns) (drop 3 ns) r 0 (omega (arith, contents_length, h)) ∙ get_or-drop 3 ns r 0
+
+-- a rule that is off, with those before it in their layout
+pub body_off : (ns cs : List ℕ) (r at place : ℕ) (o : Option ℕ) → 3 + stated ns ≤ length ns → cs ≡ take (stated ns) (drop 3 ns) → r < length cs → at ≡ ends ns r → ((j : ℕ) → j < r → Lies ns j) → place ≡ get_or cs r 0
+    → MatchOption o (place ≡ at → length ns < at + 2 + get_or ns (at + 1) 0) (λ end. (place ≡ at) × (end ≡ at + 2 + get_or ns (at + 1) 0) × (end ≤ length ns)) → o ≡ None → Refused ns (Layout (r + 1))
+body_off ns cs r at place (Some end) listed is low here before placed found none = absurd (search (rules, none))
+body_off ns cs r at place None listed is low here before placed found none =
+    let there = contents_at ns cs listed is r low in
+    refused_at ns (r + 1) (lowest listed (omega (arith, contents_length ns cs listed is, low)) before (not_lying ns r at here (λ e. found (placed ∙ there ∙ e))))
 
 -- with every rule in its layout, numbers follow or the list is a packing
 pub all_lie : (ns : List ℕ) (r at : ℕ) → 3 + stated ns ≤ length ns → r ≡ stated ns → at ≡ ends ns r → at ≤ length ns → ((j : ℕ) → j < r → Lies ns j)

@@ -72,6 +72,7 @@ fn contents(numbers: &[u16]) -> Option<&[u16]>
 }
 
 // Why the numbers are off their layout, if they are.
+#[tactic(auto, using(crate::proofs::OffLayout::contents_off))]
 fn check_layout(numbers: &[u16]) -> Result<(), Refusal>
     ensures { MatchResult result (λ _. InLayout numbers.now) (λ e. Refused numbers.now e) }
 {
@@ -86,6 +87,7 @@ fn check_layout(numbers: &[u16]) -> Result<(), Refusal>
 }
 
 // Where the last body ends, if each lies where the contents have it, behind the one before.
+#[tactic(auto, using(crate::proofs::OffLayout::body_off))]
 fn bodies_end(numbers: &[u16], contents: &[u16]) -> Result<usize, Refusal>
     requires listed { 3 + stated numbers.now ≤ length numbers.now }
     requires contents { contents.now ≡ take (stated numbers.now) (drop 3 numbers.now) }
@@ -124,6 +126,7 @@ impl<'a> RuleSheet for PackedSheet<'a> {
         self.numbers[1]
     }
 
+    #[tactic(auto, using(crate::proofs::Bodies::rules_length))]
     fn rules(&self) -> u16 {
         self.numbers[2]
     }
