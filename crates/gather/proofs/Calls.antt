@@ -120,6 +120,7 @@ module _ {M : Type 0} {none : M} {op : M → M → M} {targets : ℕ → List �
           more = settled_new;
           taken = λ q t' l b e i. taken_kept {s = s} {s' = s'} κ up x t' u.in_x i x_seen (u.taken q t' l b e i);
           kept = record {
+            lent = κ.lent ∙ u.kept.lent;
             visited = λ p l nz.
                 let one = u.kept.visited p l nz in
                 κ.visited p l (λ e. nz (sym one ∙ e)) ∙ one;

@@ -1,5 +1,6 @@
 -- Where the walks begin and end.
 use Rattle.std.proofs.Common.{◌≡◌, ℕ, ◌+◌, ◌<◌, ◌≤◌, List, [], length, get_or, sym, refl, ap, ◌∙◌, subst, inl, ⊎_elim, arith}
+use Rattle.std.specs.Borrow.{GName}
 use Rattle.std.proofs.lemmas.List.Sums.{count_by-le-length}
 use Rattle.std.proofs.lemmas.Bool.{cases_order}
 use Rattle.gather.specs.Gathered.{PartOf, seed, Gathered}
@@ -12,8 +13,8 @@ use Rattle.gather.proofs.Parts.{Lattice, part_trans}
 
 module _ {M : Type 0} {none : M} {op : M → M → M} (laws : Lattice op) {targets : ℕ → List ℕ} {seeds : List M} where
   -- Nothing is seen, and the values are the seeds.
-  pub begin : (visits : List Visit) (stack : List ℕ) → stack ≡ [] → length visits ≡ 2304 → ((p : ℕ) → p < 2304 → get_or visits p Unseen ≡ Unseen) → length seeds ≤ 2304 → Sound none op targets seeds (record { values = seeds; visits = visits; stack = stack })
-  begin visits stack empty long blank few =
+  pub begin : (lent : GName) (visits : List Visit) (stack : List ℕ) → stack ≡ [] → length visits ≡ 2304 → ((p : ℕ) → p < 2304 → get_or visits p Unseen ≡ Unseen) → length seeds ≤ 2304 → Sound none op targets seeds (record { lent = lent; values = seeds; visits = visits; stack = stack })
+  begin lent visits stack empty long blank few =
       let flat : length stack ≡ 0 = ap length empty in
       let fresh : (p : ℕ) → p < length seeds → get_or visits p Unseen ≡ Unseen = λ p l. blank p (omega arith) in
       record {

@@ -207,6 +207,7 @@ module _ {M : Type 0} {none : M} {op : M → M → M} (laws : Lattice op) {targe
         (⊎_elim (λ lt. taken_x t' (u.taken q t' lt b e i)) (λ gt. absurd (omega arith)))
         (cases_order q k);
     kept = record {
+      lent = u.kept.lent;
       visited = λ p l nz. let ne : p ≡ x → ⊥ = λ e. nz (ap (visit s₀) e ∙ u.fresh) in visit_other p ne ∙ u.kept.visited p l nz;
       valued = λ p l nz. let ne : p ≡ x → ⊥ = λ e. nz (ap (visit s₀) e ∙ u.fresh) in value_other p ne ∙ u.kept.valued p l nz;
       stacked = u.kept.stacked;

@@ -6,7 +6,7 @@ use Rattle.gather.specs.Gathered.{PartOf, JoinedFrom}
 use Rattle.gather.specs.Reach.{Step, Reaches, here}
 use Rattle.gather.specs.declared.visit.Visit.{Visit}
 use Rattle.gather.specs.declared.visit.Visit.TheVariants.{Unseen, Open, Done}
-use Rattle.gather.specs.Stack.{Snapshot, value, visit, mark, at, top, unseen, Completed, Sound, TakenIn, Walked}
+use Rattle.gather.specs.Stack.{Snapshot, value, visit, mark, at, top, unseen, Closed, Completed, Sound, TakenIn, Walked}
 use Rattle.gather.specs.Visits.{is_unseen, rank}
 use Rattle.gather.proofs.Counts.{is_seen, unseen_same}
 use Rattle.gather.proofs.Parts.{Lattice, part_trans, part_as}
@@ -49,7 +49,7 @@ module _ {M : Type 0} {none : M} {op : M → M → M} (laws : Lattice op) {targe
   module _ (root : mark s x ≡ (top s₀) + 1) (values' : List M) (visits' : List Visit)
       (shut : Completed none (value none s x) (drop (top s₀) s.stack) s.values values' s.visits visits') where
     abbrev popped : Snapshot M
-    popped = record { values = values'; visits = visits'; stack = take (top s₀) s.stack }
+    popped = record { lent = s.lent; values = values'; visits = visits'; stack = take (top s₀) s.stack }
 
     top_is : top popped ≡ top s₀
     top_is = length-take-le (top s₀) s.stack (omega (arith, u.there))
@@ -226,6 +226,7 @@ module _ {M : Type 0} {none : M} {op : M → M → M} (laws : Lattice op) {targe
         record {
           sound = pop_sound;
           kept = record {
+            lent = u.kept.lent;
             visited = λ p l nz. (others p (old_away p l nz)).0 ∙ u.kept.visited p l nz;
             valued = λ p l nz. (others p (old_away p l nz)).1 ∙ u.kept.valued p l nz;
             stacked = λ a l. at_is a l ∙ u.kept.stacked a l;
@@ -234,9 +235,9 @@ module _ {M : Type 0} {none : M} {op : M → M → M} (laws : Lattice op) {targe
           ends = inl (top_is, done_in x (top s₀) (omega arith) u.there u.is);
         }
 
-  pub closed : visit s x ≡ Open (top s₀) → {s' : Snapshot M} → Completed none (value none s x) (drop (top s₀) s.stack) s.values s'.values s.visits s'.visits → s'.stack ≡ take (top s₀) s.stack → Sound none op targets seeds s₀ → Walked none op targets seeds s₀ s' x
-  closed root {s' = s'} shut is w₀ =
-      let ended = pop (ap rank root) s'.values s'.visits shut w₀ in
-      let same : ◌≡◌ {A = Snapshot M} (record { values = s'.values; visits = s'.visits; stack = take (top s₀) s.stack }) s' =
-      λ i. record { values = s'.values; visits = s'.visits; stack = sym is i } in
+  pub closed : visit s x ≡ Open (top s₀) → {s' : Snapshot M} → Closed none (value none s x) (top s₀) s s' → Sound none op targets seeds s₀ → Walked none op targets seeds s₀ s' x
+  closed root {s' = s'} shut w₀ =
+      let ended = pop (ap rank root) s'.values s'.visits shut.completed w₀ in
+      let same : ◌≡◌ {A = Snapshot M} (record { lent = s.lent; values = s'.values; visits = s'.visits; stack = take (top s₀) s.stack }) s' =
+      λ i. record { lent = sym shut.lent i; values = s'.values; visits = s'.visits; stack = sym shut.stack i } in
       subst (λ z. Walked none op targets seeds s₀ z x) same ended

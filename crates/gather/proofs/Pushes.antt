@@ -122,6 +122,7 @@ module _ {M : Type 0} {none : M} {op : M → M → M} {targets : ℕ → List �
         settled = λ a h l. absurd (omega (arith, one_more));
         taken = λ q t l. absurd (omega arith);
         kept = record {
+          lent = refl;
           visited = λ p l nz. push_other p (λ e. nz (ap (visit s) e ∙ fresh));
           valued = λ p l nz. refl;
           stacked = push_under;

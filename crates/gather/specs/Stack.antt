@@ -1,5 +1,6 @@
 -- What the walk keeps: the values, the visits, and the stack of the places whose component is not complete yet.
-use Rattle.std.specs.Prelude.{◌≡◌, ℕ, ◌+◌, ◌-◌, ◌<◌, ◌≤◌, ◌⊎◌, List, [], ◌∷◌, ◌++◌, length, ◌≢◌, slice_index, slice_index_or, slice_set, count_by}
+use Rattle.std.specs.Prelude.{◌≡◌, ℕ, ◌+◌, ◌-◌, ◌<◌, ◌≤◌, ◌⊎◌, List, [], ◌∷◌, ◌++◌, drop, length, take, ◌≢◌, slice_index, slice_index_or, slice_set, count_by}
+use Rattle.std.specs.Borrow.{GName}
 use Rattle.gather.specs.declared.visit.Visit.{Visit}
 use Rattle.gather.specs.declared.visit.Visit.TheVariants.{Unseen, Open, Done}
 use Rattle.gather.specs.declared.walk.Walk.{Walk}
@@ -11,14 +12,15 @@ use Rattle.gather.specs.Visits.{is_unseen, lower, rank}
 abbrev pub unseen : List Visit → ℕ
 unseen visits = count_by is_unseen visits
 
--- A walk at one moment.
+-- A walk at one moment: the list that it was lent, by its name and with its values, the visits, and the stack.
 pub record Snapshot (M : Type 0) : Type 0 where
+  pub lent : GName
   pub values : List M
   pub visits : List Visit
   pub stack : List ℕ
 
 abbrev pub snap : {M : Type 0} → Walk M → Snapshot M
-snap w = record { values = w.values.now; visits = w.visits; stack = w.stack }
+snap w = record { lent = w.values.ghost_name; values = w.values.now; visits = w.visits; stack = w.stack }
 
 -- The value of a place, its visit, and the place at a height of the stack.
 abbrev pub value : {M : Type 0} → M → Snapshot M → ℕ → M
@@ -40,6 +42,7 @@ mark s p = rank (visit s p)
 -- The place x on top of the stack: it is open, and reaches itself.
 abbrev pub pushed : {M : Type 0} → Snapshot M → ℕ → Snapshot M
 pushed s x = record {
+  lent = s.lent;
   values = s.values;
   visits = slice_set s.visits x (Open (top s));
   stack = s.stack ++ x ∷ [];
@@ -48,6 +51,7 @@ pushed s x = record {
 -- The visit and the value of t are taken into those of x.
 abbrev pub folded : {M : Type 0} → M → (M → M → M) → Snapshot M → ℕ → ℕ → Snapshot M
 folded none op s x t = record {
+  lent = s.lent;
   values = slice_set s.values x (op (value none s x) (value none s t));
   visits = slice_set s.visits x (lower (visit s x) (visit s t));
   stack = s.stack;
@@ -60,6 +64,12 @@ pub record Completed {M : Type 0} (none v : M) (places : List ℕ) (values value
   pub visited : (a : ℕ) → a < length places → slice_index_or visits' (slice_index places a) Unseen ≡ Done
   pub valued : (a : ℕ) → a < length places → slice_index_or values' (slice_index places a) none ≡ v
   pub others : (p : ℕ) → ((a : ℕ) → a < length places → slice_index places a ≢ p) → (slice_index_or visits' p Unseen ≡ slice_index_or visits p Unseen) × (slice_index_or values' p none ≡ slice_index_or values p none)
+
+-- The places from the height h of the stack on leave it, done, with the value v.
+pub record Closed {M : Type 0} (none v : M) (h : ℕ) (s s' : Snapshot M) : Type 0 where
+  pub lent : s'.lent ≡ s.lent
+  pub completed : Completed none v (drop h s.stack) s.values s'.values s.visits s'.visits
+  pub stack : s'.stack ≡ take h s.stack
 
 module _ {M : Type 0} (none : M) (op : M → M → M) (targets : ℕ → List ℕ) (seeds : List M) where
   -- What holds at any moment.
@@ -93,8 +103,9 @@ module _ {M : Type 0} (none : M) (op : M → M → M) (targets : ℕ → List �
     pub under : PartOf op (value none s (at s a)) (value none s r)
     pub taken : (t : ℕ) → Step (length seeds) targets (at s a) t → TakenIn s (at s a) t
 
-  -- A walk leaves alone what was seen before it, and the stack below h; and it sees one place at least.
+  -- A walk keeps its list, and leaves alone what was seen before it, and the stack below h; and it sees one place at least.
   pub record Kept (s s' : Snapshot M) (h : ℕ) : Type 0 where
+    pub lent : s'.lent ≡ s.lent
     pub visited : (p : ℕ) → p < length seeds → (visit s p ≢ Unseen) → visit s' p ≡ visit s p
     pub valued : (p : ℕ) → p < length seeds → (visit s p ≢ Unseen) → value none s' p ≡ value none s p
     pub stacked : (a : ℕ) → a < h → at s' a ≡ at s a

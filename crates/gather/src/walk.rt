@@ -1,6 +1,6 @@
-ghost use Rattle.std.specs.Prelude.{◌≡◌, ℕ, ◌<◌, ◌≤◌, List, [], All, drop, length, take};
+ghost use Rattle.std.specs.Prelude.{◌≡◌, ℕ, ◌<◌, ◌≤◌, List, [], All, length};
 ghost use Rattle.gather.specs.Gathered.{Gathered};
-ghost use Rattle.gather.specs.Stack.{Completed, Ready, Sound, Walked, folded, pushed, snap, value};
+ghost use Rattle.gather.specs.Stack.{Closed, Completed, Ready, Sound, Walked, folded, pushed, snap, value};
 
 use super::join::Join;
 use super::relation::{Relation, Targets};
@@ -34,8 +34,6 @@ fn complete<J: Join>(values: &mut [J], visits: &mut [Visit], places: &[usize], v
 impl<'a, J: Join> Walk<'a, J> {
     // A walk that has seen nothing.
     pub(crate) fn new(values: &'a mut [J]) -> Walk<'a, J>
-        // `lent`, here and in what changes a walk: a walk holds the list that it was lent, to which its values go back.
-        // No fact of a walk says so, since it ties the walk after a call to that before it.
         ensures lent { result.values.ghost_name ≡ values.entry.ghost_name }
         ensures held { result.values.now ≡ values.old }
         ensures empty { result.stack ≡ [] }
@@ -51,8 +49,7 @@ impl<'a, J: Join> Walk<'a, J> {
     // Puts a place onto the stack.
     fn push(&mut self, place: usize)
         requires { (length self.old.stack < 2304) × (place < length self.old.visits) }
-        ensures lent { self.new.values.ghost_name ≡ self.old.values.ghost_name }
-        ensures pushed { snap self.new ≡ pushed (snap self.old) place }
+        ensures { snap self.new ≡ pushed (snap self.old) place }
     {
         self.visits[place] = Visit::Open(self.stack.height());
         self.stack.push(place);
@@ -62,8 +59,7 @@ impl<'a, J: Join> Walk<'a, J> {
     fn fold(&mut self, place: usize, target: usize)
         requires inside { (place < length self.old.values.now) × (target < length self.old.values.now) }
         requires few { length self.old.values.now ≤ 2304 }
-        ensures lent { self.new.values.ghost_name ≡ self.old.values.ghost_name }
-        ensures folded { snap self.new ≡ folded J.none J.op (snap self.old) place target }
+        ensures { snap self.new ≡ folded J.none J.op (snap self.old) place target }
     {
         self.visits[place] = self.visits[place].min(self.visits[target]);
         self.values[place] = self.values[place].join(self.values[target]);
@@ -75,9 +71,7 @@ impl<'a, J: Join> Walk<'a, J> {
         requires value { place < length self.old.values.now }
         requires inside { All (λ p. p < length self.old.values.now) self.old.stack }
         requires few { length self.old.values.now ≤ 2304 }
-        ensures lent { self.new.values.ghost_name ≡ self.old.values.ghost_name }
-        ensures completed { Completed J.none (value J.none (snap self.old) place) (drop low self.old.stack) self.old.values.now self.new.values.now self.old.visits self.new.visits }
-        ensures stack { self.new.stack ≡ take low self.old.stack }
+        ensures { Closed J.none (value J.none (snap self.old) place) low (snap self.old) (snap self.new) }
     {
         let value = self.values[place];
         complete(self.values, &mut self.visits, self.stack.above(low), value);
@@ -87,8 +81,7 @@ impl<'a, J: Join> Walk<'a, J> {
     // Walks from a place that was not seen yet over all that it reaches and that was not seen yet.
     fn traverse<R: Relation>(&mut self, place: usize, relation: &R)
         requires { Ready J.none J.op (R.targets relation.now) (snap self.old) place }
-        ensures lent { self.new.values.ghost_name ≡ self.old.values.ghost_name }
-        ensures walked { (seeds : List J) → Sound J.none J.op (R.targets relation.now) seeds (snap self.old) → Walked J.none J.op (R.targets relation.now) seeds (snap self.old) (snap self.new) place }
+        ensures { (seeds : List J) → Sound J.none J.op (R.targets relation.now) seeds (snap self.old) → Walked J.none J.op (R.targets relation.now) seeds (snap self.old) (snap self.new) place }
     {
         let height = self.stack.height();
         self.push(place);

@@ -1,8 +1,8 @@
-use Rattle.std.proofs.Common.{◌≡◌, ◌<◌, List, drop, take, length, refl, rules, sym, ap, ◌∙◌, subst, arith}
+use Rattle.std.proofs.Common.{◌≡◌, ◌<◌, List, length, refl, rules, sym, ap, ◌∙◌, subst, arith}
 use Rattle.std.proofs.lemmas.List.{get_or_default}
 use Rattle.gather.specs.declared.visit.Visit.TheVariants.{Unseen, Open}
 use Rattle.gather.specs.Reach.{Step}
-use Rattle.gather.specs.Stack.{Completed, snap, value, visit, top}
+use Rattle.gather.specs.Stack.{Closed, snap, value, visit, top}
 use Rattle.gather.proofs.Calls.{outside, seen_before, walked_from}
 use Rattle.gather.proofs.Folds.{fold_turn}
 use Rattle.gather.proofs.Listed.{nth_some, nth_none, listed_at}
@@ -28,8 +28,7 @@ loop-target-init g t c =
       finite = tt;
       relation = ap (λ i. i.relation.now) begun;
       place = ap (λ i. i.place) begun;
-      lent = c.push.ensures.lent;
-      turn = λ seeds w. turn_as _ _ _ _ c.push.ensures.pushed (ap (λ i. i.k) begun) (push w (omega (arith, c.requires.1.size, c.requires.2, w.size)) c.requires.3);
+      turn = λ seeds w. turn_as _ _ _ _ c.push.ensures (ap (λ i. i.k) begun) (push w (omega (arith, c.requires.1.size, c.requires.2, w.size)) c.requires.3);
     }
 
 pub fold-requires-clause-inside : goal.fold-requires-clause-inside
@@ -37,7 +36,7 @@ fold-requires-clause-inside g t c =
     let u = c.loop-target.invariant.turn c.requires.0 c.requires.1 in
     let size : length c.if-eq.self.values.now ≡ length c.requires.0 =
     elim c.if-eq.branch [
-      | then-eq w ↦ ap (λ z. length z.values.now) w.self-is ∙ (w.traverse.ensures.walked c.requires.0 u.sound).sound.size
+      | then-eq w ↦ ap (λ z. length z.values.now) w.self-is ∙ (w.traverse.ensures c.requires.0 u.sound).sound.size
       | else-eq w ↦ ap (λ z. length z.values.now) w.self-is ∙ u.sound.size
     ] in
     (omega (arith, u.in_x), omega (arith, u.sound.size, c.if-target-self.true))
@@ -47,21 +46,21 @@ fold-requires-clause-few g t c =
     let u = c.loop-target.invariant.turn c.requires.0 c.requires.1 in
     let size : length c.if-eq.self.values.now ≡ length c.requires.0 =
     elim c.if-eq.branch [
-      | then-eq w ↦ ap (λ z. length z.values.now) w.self-is ∙ (w.traverse.ensures.walked c.requires.0 u.sound).sound.size
+      | then-eq w ↦ ap (λ z. length z.values.now) w.self-is ∙ (w.traverse.ensures c.requires.0 u.sound).sound.size
       | else-eq w ↦ ap (λ z. length z.values.now) w.self-is ∙ u.sound.size
     ] in
     omega (arith, c.requires.1.sizes, c.requires.1.few)
 
 pub loop-target-preserved-then-target-self : goal.loop-target-preserved-then-target-self
 loop-target-preserved-then-target-self g t c =
-    let went : (c.if-eq.self.values.ghost_name ≡ c.loop-target.self.values.ghost_name) × ((seeds : List g.row.J.Denot) → Turn g.J.Join.none g.J.Join.op (g.R.Relation.targets c.args.relation.now) seeds (snap c.args.self.now) (snap c.loop-target.self) c.args.place (top (snap c.args.self.now)) c.loop-target.target-iterator.k → Step (length seeds) (g.R.Relation.targets c.args.relation.now) c.args.place c.in-Some.target → Joint g.J.Join.none g.J.Join.op (g.R.Relation.targets c.args.relation.now) seeds (snap c.args.self.now) (snap c.if-eq.self) c.args.place (top (snap c.args.self.now)) c.loop-target.target-iterator.k (top (snap c.loop-target.self)) c.in-Some.target) =
+    let went : (seeds : List g.row.J.Denot) → Turn g.J.Join.none g.J.Join.op (g.R.Relation.targets c.args.relation.now) seeds (snap c.args.self.now) (snap c.loop-target.self) c.args.place (top (snap c.args.self.now)) c.loop-target.target-iterator.k → Step (length seeds) (g.R.Relation.targets c.args.relation.now) c.args.place c.in-Some.target → Joint g.J.Join.none g.J.Join.op (g.R.Relation.targets c.args.relation.now) seeds (snap c.args.self.now) (snap c.if-eq.self) c.args.place (top (snap c.args.self.now)) c.loop-target.target-iterator.k (top (snap c.loop-target.self)) c.in-Some.target =
     elim c.if-eq.branch [
       | then-eq w ↦
           (let fresh : visit (snap c.loop-target.self) c.in-Some.target ≡ Unseen = search rules in
-          (ap (λ z. z.values.ghost_name) w.self-is ∙ w.traverse.ensures.lent, λ seeds u hop. joint_as _ _ _ _ (ap snap w.self-is) (walked_from (laws g) c.in-Some.target u hop fresh (w.traverse.ensures.walked seeds u.sound))))
+          λ seeds u hop. joint_as _ _ _ _ (ap snap w.self-is) (walked_from (laws g) c.in-Some.target u hop fresh (w.traverse.ensures seeds u.sound)))
       | else-eq w ↦
           (let seen : visit (snap c.loop-target.self) c.in-Some.target ≡ Unseen → ⊥ = λ e. search rules in
-          (ap (λ z. z.values.ghost_name) w.self-is, λ seeds u hop. joint_as _ _ _ _ (ap snap w.self-is) (seen_before c.in-Some.target u hop seen)))
+          λ seeds u hop. joint_as _ _ _ _ (ap snap w.self-is) (seen_before c.in-Some.target u hop seen))
     ] in
     let it = c.loop-target.invariant in
     let on = c.in-Some.ensures.steps in
@@ -71,12 +70,11 @@ loop-target-preserved-then-target-self g t c =
       finite = tt;
       relation = ap (λ i. i.relation.now) on.1 ∙ it.relation;
       place = ap (λ i. i.place) on.1 ∙ it.place;
-      lent = c.fold.ensures.lent ∙ went.0 ∙ it.lent;
       turn = λ seeds s.
           let u = it.turn seeds s in
           let hop : Step (length seeds) (g.R.Relation.targets c.args.relation.now) c.args.place c.in-Some.target =
           record { inside = omega (arith, u.sound.size, c.if-target-self.true); nr = c.loop-target.target-iterator.k; listed = read.0; there = read.1 } in
-          turn_as _ _ _ _ c.fold.ensures.folded (ap (λ i. i.k) on.1) (fold_turn (laws g) c.in-Some.target (went.1 seeds u hop) read.1);
+          turn_as _ _ _ _ c.fold.ensures (ap (λ i. i.k) on.1) (fold_turn (laws g) c.in-Some.target (went seeds u hop) read.1);
     }
 
 pub loop-target-preserved : goal.loop-target-preserved
@@ -89,7 +87,6 @@ loop-target-preserved g t c =
       finite = tt;
       relation = ap (λ i. i.relation.now) on.1 ∙ it.relation;
       place = ap (λ i. i.place) on.1 ∙ it.place;
-      lent = it.lent;
       turn = λ seeds s. let u = it.turn seeds s in turn_as _ _ _ _ refl (ap (λ i. i.k) on.1) (outside u (omega (arith, read.1, u.sound.size)));
     }
 
@@ -98,17 +95,16 @@ close-requires-clause-inside g t c = λ k d l.
     let u = c.loop-target.invariant.turn c.requires.0 c.requires.1 in
     subst (λ p. p < length c.loop-target.self.values.now) (get_or_default c.loop-target.self.stack k 0 d l) (omega (arith, u.sound.inside k l, u.sound.size))
 
-pub returns-then-eq-2-clause-walked : goal.returns-then-eq-2-clause-walked
-returns-then-eq-2-clause-walked g t c =
+pub returns-then-eq-2 : goal.returns-then-eq-2
+returns-then-eq-2 g t c =
     let root : visit (snap c.loop-target.self) c.args.place ≡ Open c.height-height.result = grind arith steps 40000000 in
     let it = c.loop-target.invariant in
     let all = nth_none (g.R.Relation.targets c.args.relation.now c.args.place) c.loop-target.target-iterator.k (listed_at g.R.Relation.targets c.loop-target.target-iterator.k it.relation it.place c.in-None.ensures.steps.0) in
     λ seeds s. closed (laws g) (it.turn seeds s) all (root ∙ ap Open c.height-height.ensures)
-    (subst (λ h. Completed g.J.Join.none (value g.J.Join.none (snap c.loop-target.self) c.args.place) (drop h c.loop-target.self.stack) c.loop-target.self.values.now c.close.new.self.values.now c.loop-target.self.visits c.close.new.self.visits) c.height-height.ensures c.close.ensures.completed)
-    (c.close.ensures.stack ∙ ap (λ h. take h c.loop-target.self.stack) c.height-height.ensures) s
+    (subst (λ h. Closed g.J.Join.none (value g.J.Join.none (snap c.loop-target.self) c.args.place) h (snap c.loop-target.self) (snap c.close.new.self)) c.height-height.ensures c.close.ensures) s
 
-pub returns-else-eq-2-clause-walked : goal.returns-else-eq-2-clause-walked
-returns-else-eq-2-clause-walked g t c =
+pub returns-else-eq-2 : goal.returns-else-eq-2
+returns-else-eq-2 g t c =
     let off : visit (snap c.loop-target.self) c.args.place ≡ Open c.height-height.result → ⊥ = λ e. search rules in
     let it = c.loop-target.invariant in
     let all = nth_none (g.R.Relation.targets c.args.relation.now c.args.place) c.loop-target.target-iterator.k (listed_at g.R.Relation.targets c.loop-target.target-iterator.k it.relation it.place c.in-None.ensures.steps.0) in

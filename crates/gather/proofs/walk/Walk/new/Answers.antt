@@ -10,4 +10,4 @@ laws : (g : given.Over) → Lattice g.J.Join.op
 laws g = record { idem = g.met.J.Join.idem; comm = g.met.J.Join.comm; assoc = g.met.J.Join.assoc }
 
 pub returns-clause-sound : goal.returns-clause-sound
-returns-clause-sound g c = λ targets few. begin (laws g) _ _ c.new.ensures (length-replicate {A = Visit} 2304 Unseen) (λ p l. get_or-replicate {A = Visit} 2304 p Unseen Unseen l) few
+returns-clause-sound g c = λ targets few. begin (laws g) _ _ _ c.new.ensures (length-replicate {A = Visit} 2304 Unseen) (λ p l. get_or-replicate {A = Visit} 2304 p Unseen Unseen l) few

@@ -15,9 +15,10 @@ loop-place-preserved g c =
     elim c.if-eq.branch [
       | then-eq w ↦
           (let b = c.loop-place.invariant.between in
+          let walked = w.traverse.ensures c.args.self.now.values.now b.sound in
           record {
-            lent = ap (λ z. z.values.ghost_name) w.self-is ∙ w.traverse.ensures.lent ∙ c.loop-place.invariant.lent;
-            between = between_as (ap snap w.self-is) (pass_walked (omega arith) b (w.traverse.ensures.walked c.args.self.now.values.now b.sound));
+            lent = ap (λ z. z.values.ghost_name) w.self-is ∙ walked.kept.lent ∙ c.loop-place.invariant.lent;
+            between = between_as (ap snap w.self-is) (pass_walked (omega arith) b walked);
           })
       | else-eq w ↦
           (let seen : visit (snap c.loop-place.self) c.loop-place.place ≡ Unseen → ⊥ = λ e. search rules in
