@@ -22,3 +22,4 @@ pub mod UniqueFault
 pub mod OneOpening
 pub mod FilledSheets
 pub mod FormFaults
+pub mod RuleNumbers

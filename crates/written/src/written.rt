@@ -83,6 +83,7 @@ impl<'a> WrittenSheet<'a> {
     }
 
     // The rule with a number, from 1.
+    #[tactic(auto, using(crate::proofs::RuleNumbers::found_by_number))]
     fn numbered(&self, rule: u16) -> Option<ShortRule>
         ensures { option_map rule_of result ≡ rule_told (written_grammar self.now) rule }
     {
