@@ -5,6 +5,8 @@ use grammar::Refusal;
 use std::io;
 use written::WrittenSheet;
 
+// Not inlined, so that a sheet that builds does not touch the stack that telling a conflict takes.
+#[inline(never)]
 pub(crate) fn print_refused(
     rt: &HostRuntime,
     text: &[u8],
