@@ -1,6 +1,8 @@
 // Books the lines on standard input by the written rule sheet in front of them, and prints the answers and the book.
 #![tactic(auto)]
 
+ghost use Rattle.planlines.specs.ReadSheets.{SheetRead};
+
 use book::{Book, PrintedPage};
 use console::{MOST, fill};
 use grammar::Refusal;
@@ -27,7 +29,9 @@ fn print_refused(rt: &HostRuntime, refusal: Refusal) -> io::Result<()> {
 }
 
 // A sheet that opens, with its tables.
-fn read_sheet(text: &[u8]) -> Result<(WrittenSheet<'_>, Tables), Refusal> {
+fn read_sheet(text: &[u8]) -> Result<(WrittenSheet<'_>, Tables), Refusal>
+    ensures { SheetRead text.now result }
+{
     let mut sheet = WrittenSheet::new();
     sheet.open(text)?;
     let mut tables = Tables::new();
