@@ -2,13 +2,13 @@
 use Rattle.std.specs.Prelude.{◌≡◌, ℕ, ◌+◌, ◌-◌, ◌<◌, ◌≤◌, ◌⊎◌, List, length, slice_index, take, drop}
 
 -- At this place begins a line that is exactly `=`: nothing or a newline stands before it, the end or a newline behind it.
-abbrev pub MarkBegins : List ℕ → ℕ → Type 0
-MarkBegins input place = ((place ≡ 0) ⊎ (slice_index input (place - 1) ≡ 10)) × (slice_index input place ≡ 61) × ((place + 1 ≡ length input) ⊎ (slice_index input (place + 1) ≡ 10))
+abbrev pub DividerBegins : List ℕ → ℕ → Type 0
+DividerBegins input place = ((place ≡ 0) ⊎ (slice_index input (place - 1) ≡ 10)) × (slice_index input place ≡ 61) × ((place + 1 ≡ length input) ⊎ (slice_index input (place + 1) ≡ 10))
 
--- The first such line begins at this place, or there is none and this is the input's length.
+-- The divider, the first such line, begins at this place, or there is none and this is the input's length.
 abbrev pub SheetEnds : List ℕ → ℕ → Type 0
-SheetEnds input end = (end ≤ length input) × ((place : ℕ) → place < end → MarkBegins input place → ⊥) × (end < length input → MarkBegins input end)
+SheetEnds input end = (end ≤ length input) × ((place : ℕ) → place < end → DividerBegins input place → ⊥) × (end < length input → DividerBegins input end)
 
--- The sheet is what stands before that line, the lines are what stands behind it and its newline.
+-- The sheet is what stands before the divider, the lines are what stands behind it and its newline.
 abbrev pub Divided : List ℕ → List ℕ → List ℕ → Type 0
 Divided input sheet lines = (end : ℕ) × SheetEnds input end × (sheet ≡ take end input) × (lines ≡ drop (end + 2) input)
