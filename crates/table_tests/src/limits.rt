@@ -1,7 +1,8 @@
 // Each limit, at it and past it, in packed sheets and in written ones.
 use super::script::{Script, spelled};
-use super::table::{alike, built, comes_to, packed, written};
-use grammar::Refusal;
+use super::table::{alike, built, comes_to, conflict, packed, written};
+use grammar::Action::{Accept, Reduce};
+use grammar::Refusal::{Limits, States, Useless};
 use sheet::Supplement;
 use std::alloc::{AllocError, Global};
 use std::process::Abort;
@@ -20,14 +21,17 @@ fn builds(rt: &impl Abort, heap: Global, script: &Script, states: usize) -> Resu
 }
 
 // A packed sheet is refused when it is built, and a written one when it is opened.
-fn is_past(rt: &impl Abort, heap: Global, script: &Script) -> Result<(), Fail> {
+fn both_off_limits(rt: &impl Abort, heap: Global, script: &Script) -> Result<(), Fail> {
     let numbers = script.numbers(heap)?;
-    let sheet = packed(rt, &numbers);
-    comes_to(rt, heap, &sheet, "3")?;
-    let text = spelled(heap, &sheet)?;
+    off_limits(rt, heap, &numbers)?;
+    let text = spelled(heap, &packed(rt, &numbers))?;
     let mut opened = WrittenSheet::new();
-    assert_eq!(rt; opened.open(text.as_bytes()), Err(Refusal::Limits));
+    assert_eq!(rt; opened.open(text.as_bytes()), Err(Limits));
     Ok(())
+}
+
+fn off_limits(rt: &impl Abort, heap: Global, numbers: &[u16]) -> Result<(), Fail> {
+    comes_to(rt, heap, &packed(rt, numbers), Err(Limits))
 }
 
 // A rule for each word.
@@ -43,9 +47,9 @@ fn words(heap: Global, count: u16) -> Result<Script, AllocError> {
 fn terminals(rt: HostRuntime) -> Result<(), Fail> {
     let heap = rt.alloc();
     builds(&rt, heap, &words(heap, 63)?, 65)?;
-    is_past(&rt, heap, &words(heap, 64)?)?;
-    comes_to(&rt, heap, &packed(&rt, &[257, 1, 1, 4, 258, 1, 1]), "3")?;
-    comes_to(&rt, heap, &packed(&rt, &[0, 1, 1, 4, 1, 0]), "3")
+    both_off_limits(&rt, heap, &words(heap, 64)?)?;
+    off_limits(&rt, heap, &[257, 1, 1, 4, 258, 1, 1])?;
+    off_limits(&rt, heap, &[0, 1, 1, 4, 1, 0])
 }
 
 // A rule from each nonterminal to the next, and from the last to the one word.
@@ -62,9 +66,9 @@ fn names(heap: Global, count: u16) -> Result<Script, AllocError> {
 fn nonterminals(rt: HostRuntime) -> Result<(), Fail> {
     let heap = rt.alloc();
     builds(&rt, heap, &names(heap, 24)?, 26)?;
-    is_past(&rt, heap, &names(heap, 25)?)?;
-    comes_to(&rt, heap, &packed(&rt, &[1, 257, 1, 4, 2, 1, 1]), "3")?;
-    comes_to(&rt, heap, &packed(&rt, &[1, 0, 1, 4, 2, 1, 1]), "3")
+    both_off_limits(&rt, heap, &names(heap, 25)?)?;
+    off_limits(&rt, heap, &[1, 257, 1, 4, 2, 1, 1])?;
+    off_limits(&rt, heap, &[1, 0, 1, 4, 2, 1, 1])
 }
 
 // 96 rules: each of 46 words stands for either of two nonterminals.
@@ -86,13 +90,13 @@ fn rules(rt: HostRuntime) -> Result<(), Fail> {
     let mut script = most_rules(heap)?;
     builds(&rt, heap, &script, 54)?;
     script.rule(49, &[1, 2])?;
-    is_past(&rt, heap, &script)?;
+    both_off_limits(&rt, heap, &script)?;
     // and on to 257, which eight bits would have for one
     for _ in 97..257 {
         script.rule(49, &[1, 2])?;
     }
-    is_past(&rt, heap, &script)?;
-    comes_to(&rt, heap, &packed(&rt, &[1, 1, 0]), "3")
+    both_off_limits(&rt, heap, &script)?;
+    off_limits(&rt, heap, &[1, 1, 0])
 }
 
 fn one_rule(heap: Global, codes: &[u16]) -> Result<Script, AllocError> {
@@ -105,8 +109,8 @@ fn one_rule(heap: Global, codes: &[u16]) -> Result<Script, AllocError> {
 fn right_sides(rt: HostRuntime) -> Result<(), Fail> {
     let heap = rt.alloc();
     builds(&rt, heap, &one_rule(heap, &[1; 8])?, 10)?;
-    is_past(&rt, heap, &one_rule(heap, &[1; 9])?)?;
-    is_past(&rt, heap, &one_rule(heap, &[1; 257])?)
+    both_off_limits(&rt, heap, &one_rule(heap, &[1; 9])?)?;
+    both_off_limits(&rt, heap, &one_rule(heap, &[1; 257])?)
 }
 
 // Each of eleven words eight times, and a twelfth as told: a state for each word, and two more.
@@ -125,9 +129,9 @@ fn states(rt: HostRuntime) -> Result<(), Fail> {
     builds(&rt, heap, &chains(heap, 1, &[12; 6])?, 96)?;
     let numbers = chains(heap, 1, &[12; 7])?.numbers(heap)?;
     let sheet = packed(&rt, &numbers);
-    comes_to(&rt, heap, &sheet, "6")?;
+    comes_to(&rt, heap, &sheet, Err(States))?;
     let text = spelled(heap, &sheet)?;
-    comes_to(&rt, heap, &written(&rt, text.as_str()), "6")
+    comes_to(&rt, heap, &written(&rt, text.as_str()), Err(States))
 }
 
 // Too many states are told behind a nonterminal with no rule, and before a conflict.
@@ -135,13 +139,18 @@ fn states(rt: HostRuntime) -> Result<(), Fail> {
 fn states_stand_between(rt: HostRuntime) -> Result<(), Fail> {
     let heap = rt.alloc();
     let useless = chains(heap, 2, &[12; 7])?.numbers(heap)?;
-    comes_to(&rt, heap, &packed(&rt, &useless), "5 14")?;
+    comes_to(
+        &rt,
+        heap,
+        &packed(&rt, &useless),
+        Err(Useless { nonterminal: 14 }),
+    )?;
     let past = chains(heap, 1, &[12; 7])?.numbers(heap)?;
     let mut more = Supplement::new(packed(&rt, &past));
     assert_eq!(rt; more.add(13, &[13]), Ok(()));
-    comes_to(&rt, heap, &more, "6")?;
+    comes_to(&rt, heap, &more, Err(States))?;
     let most = chains(heap, 1, &[12; 6])?.numbers(heap)?;
     let mut more = Supplement::new(packed(&rt, &most));
     assert_eq!(rt; more.add(13, &[13]), Ok(()));
-    comes_to(&rt, heap, &more, "7 13 0 accept reduce 13")
+    comes_to(&rt, heap, &more, Err(conflict(13, 0, Accept, Reduce(13))))
 }

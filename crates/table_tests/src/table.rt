@@ -1,5 +1,5 @@
-// What a build comes to, as text: the states in their order, or the refusal as it is printed.
-use grammar::Action;
+// What a build comes to: a refusal, or states, which are told as text.
+use grammar::{Action, Refusal};
 use sheet::{PackedSheet, RuleSheet};
 use std::alloc::{AllocError, Global};
 use std::process::Abort;
@@ -56,8 +56,8 @@ fn put_gotos(text: &mut String, tables: &Tables, state: usize) -> Result<(), All
     Ok(())
 }
 
-// Of each state the cells from the end mark on, and then where the nonterminals lead.
-pub(crate) fn whole(heap: Global, tables: &Tables) -> Result<String, AllocError> {
+// Of each state the cells from the end mark on, and where the nonterminals lead: `- s1 r2 | 3 -; acc - - | - -`.
+fn whole(heap: Global, tables: &Tables) -> Result<String, AllocError> {
     let mut text = String::new(heap);
     for state in 0..tables.states() {
         if state > 0 {
@@ -83,21 +83,26 @@ fn words_lead_as_shifted(tables: &Tables, state: usize) -> bool {
         == shifted(tables.cell(state, word)))
 }
 
-// Tables that held sheet A come to what is told, and are blank if that is a refusal.
+// Tables that held sheet A have just these states, or are blank by this refusal.
 pub(crate) fn comes_to<S: RuleSheet>(
     rt: &impl Abort,
     heap: Global,
     sheet: &S,
-    told: &str,
+    told: Result<&str, Refusal>,
 ) -> Result<(), Fail> {
     let mut tables = built(rt, &written(rt, SAMPLE));
-    if let Err(refusal) = tables.build(sheet) {
-        assert_eq!(rt; refusal.to_string(heap)?.as_str(), told);
-        assert!(rt; tables.is_blank());
-        return Ok(());
+    let answer = tables.build(sheet);
+    match told {
+        Ok(states) => {
+            assert_eq!(rt; answer, Ok(()), "{states}");
+            assert_eq!(rt; whole(heap, &tables)?.as_str(), states);
+            assert!(rt; (0..tables.states()).all(|state| words_lead_as_shifted(&tables, state)));
+        }
+        Err(refusal) => {
+            assert_eq!(rt; answer, Err(refusal));
+            assert!(rt; tables.is_blank());
+        }
     }
-    assert_eq!(rt; whole(heap, &tables)?.as_str(), told);
-    assert!(rt; (0..tables.states()).all(|state| words_lead_as_shifted(&tables, state)));
     Ok(())
 }
 
@@ -105,12 +110,48 @@ pub(crate) fn comes_to<S: RuleSheet>(
 pub(crate) fn all_come_to(
     rt: &impl Abort,
     heap: Global,
-    cases: &[(&str, &str)],
+    cases: &[(&str, Result<&str, Refusal>)],
 ) -> Result<(), Fail> {
     for (text, told) in cases {
-        comes_to(rt, heap, &written(rt, text), told)?;
+        comes_to(rt, heap, &written(rt, text), *told)?;
     }
     Ok(())
+}
+
+// No product passes 32 bits, since each sum is below 65,521.
+fn sum_of(bytes: &[u8]) -> u32 {
+    bytes.iter().fold(0u32, |sum, byte| {
+        sum.wrapping_mul(193).wrapping_add(u32::from(*byte)) % 65521
+    })
+}
+
+// In short: the number of states and a sum over the bytes of their text, or the refusal as it is printed.
+fn outcome<S: RuleSheet>(heap: Global, sheet: &S) -> Result<String, AllocError> {
+    let mut tables = Tables::new();
+    if let Err(refusal) = tables.build(sheet) {
+        return refusal.to_string(heap);
+    }
+    let states = tables.states();
+    let sum = sum_of(whole(heap, &tables)?.as_bytes());
+    format!(in heap; "{states} states, {sum}")
+}
+
+// Each line is a text and, behind an arrow, what its build comes to in short.
+pub(crate) fn lines_hold(rt: &impl Abort, heap: Global, lines: &[&str]) -> Result<(), Fail> {
+    for line in lines {
+        let (text, told) = line.split_once(" => ").unwrap_or((*line, ""));
+        assert_eq!(rt; outcome(heap, &written(rt, text))?.as_str(), told, "{text}");
+    }
+    Ok(())
+}
+
+pub(crate) fn conflict(state: u8, word: u8, first: Action, second: Action) -> Refusal {
+    Refusal::Conflict {
+        state,
+        word,
+        first,
+        second,
+    }
 }
 
 fn state_alike(a: &Tables, b: &Tables, state: usize) -> bool {
