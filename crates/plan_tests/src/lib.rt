@@ -2,9 +2,15 @@
 #![tactic(auto)]
 
 #[cfg(test)]
+mod account;
+#[cfg(test)]
 mod fixtures;
 #[cfg(test)]
+mod language;
+#[cfg(test)]
 mod limits;
+#[cfg(test)]
+mod many_turns;
 #[cfg(test)]
 mod pages;
 #[cfg(test)]
