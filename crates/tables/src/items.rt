@@ -41,16 +41,14 @@ fn of_machine(machine: &Machine, state: usize) -> Option<Items>
 }
 
 // The items of a state of the machine of rules.
-#[tactic(auto, using(crate::proofs::StateItems::useless_none, crate::proofs::StateItems::all_useful, crate::proofs::StateItems::crowded_none))]
+#[tactic(auto, using(crate::proofs::StateItems::useless_none))]
 fn of_rules(rules: Rules, state: usize) -> Option<Items>
     ensures { StateItems (grammar_of rules) state result }
 {
     if useless(&rules).is_some() {
         return None;
     }
-    let Ok(states) = number(&rules) else {
-        return None;
-    };
+    let states = number(&rules).ok()?;
     of_machine(&Machine { rules, states }, state)
 }
 
