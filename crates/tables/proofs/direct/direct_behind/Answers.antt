@@ -1,4 +1,4 @@
-use Rattle.std.proofs.Common.{ℕ, ◌≡◌, refl, sym, subst, ◌∙◌, arith, Option, Some, None, MatchOption, rules, get_or}
+use Rattle.std.proofs.Common.{ℕ, ◌≡◌, refl, sym, ◌∙◌, arith, Option, Some, None, MatchOption, rules, get_or}
 use Rattle.gather.specs.Members.{no_members}
 use Rattle.tables.proofs.Transitions.{behind_place}
 use Rattle.tables.proofs.DirectWords.{words_told}
