@@ -1,9 +1,9 @@
-use Rattle.std.proofs.Common.{◌≡◌, rules, sym, subst, None, Some, false, is_some}
+use Rattle.std.proofs.Common.{◌≡◌, rules, sym, subst, None, Some}
 use Rattle.std.specs.Result.{result_ok}
 use Rattle.tables.specs.Arrays.{grammar_of}
 use Rattle.tables.specs.StateItems.{StateItems}
-use Rattle.tables.proofs.StateItems.{all_useful, crowded_none, useful_numbering}
-use Rattle.tables.proofs.items.of_rules.Goals as goal
+use Rattle.tables.proofs.StateItems.{crowded_none, useful_numbering}
+use Rattle.tables.proofs.items.of_useful.Goals as goal
 
 pub returns-in_err-states : goal.returns-in_err-states
 returns-in_err-states c =
@@ -14,5 +14,4 @@ returns-in_err-states c =
 pub of_machine-requires : goal.of_machine-requires
 of_machine-requires c =
     let some : Some c.in_ok-states.states ≡ result_ok c.number.result = search rules in
-    let no : false ≡ is_some c.useless.result = search rules in
-    useful_numbering c.args.rules c.in_ok-states.states c.number.result c.number.ensures some (all_useful c.args.rules c.useless.result c.useless.ensures no)
+    useful_numbering c.args.rules c.in_ok-states.states c.number.result c.number.ensures some c.requires
