@@ -27,10 +27,7 @@ enum Stage {
 fn longer(count: u8) -> Option<u8>
     ensures { result ≡ cond (nat_lt count 24) (Some (count + 1)) None }
 {
-    if count < LONGEST {
-        return Some(count + 1);
-    }
-    None
+    (count < LONGEST).then(|| count + 1)
 }
 
 // The stage behind one more byte, where that byte can stand.
