@@ -4,6 +4,7 @@ pub mod FirstToken
 pub mod Indexes
 pub mod Walking
 pub mod FirstWord
+pub mod FirstHeadless
 pub mod Distinct
 pub mod Drafting
 pub mod Overfull
