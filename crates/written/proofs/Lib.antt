@@ -17,6 +17,7 @@ pub mod FormComplete
 pub mod FormSound
 pub mod FormViable
 pub mod FormVerdict
+pub mod FormRead
 pub mod UniqueTokens
 pub mod UniqueStatements
 pub mod UniqueFault
