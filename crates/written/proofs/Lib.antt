@@ -4,6 +4,7 @@ pub mod FirstToken
 pub mod Indexes
 pub mod Walking
 pub mod FirstWord
+pub mod FirstHeadless
 pub mod Distinct
 pub mod Drafting
 pub mod Overfull
@@ -16,6 +17,7 @@ pub mod FormComplete
 pub mod FormSound
 pub mod FormViable
 pub mod FormVerdict
+pub mod FormRead
 pub mod UniqueTokens
 pub mod UniqueStatements
 pub mod UniqueFault

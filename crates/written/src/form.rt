@@ -27,10 +27,7 @@ enum Stage {
 fn longer(count: u8) -> Option<u8>
     ensures { result ≡ cond (nat_lt count 24) (Some (count + 1)) None }
 {
-    if count < LONGEST {
-        return Some(count + 1);
-    }
-    None
+    (count < LONGEST).then(|| count + 1)
 }
 
 // The stage behind one more byte, where that byte can stand.
@@ -59,15 +56,13 @@ fn step(stage: Stage, byte: u8) -> Option<Stage>
 pub(crate) fn misplaced(text: &[u8]) -> Option<usize>
     ensures { MatchOption result (WellFormed text.now) (λ p. Misplaced text.now p) }
 {
-    let mut stage = Stage::Between;
-    for (at, byte) in text.iter().enumerate() {
-        match step(stage, *byte) {
-            Some(later) => stage = later,
-            None => return Some(at),
-        }
-    }
-    match stage {
-        Stage::Between => None,
-        _ => Some(text.len()),
+    let read = text.iter().enumerate().try_fold(
+        Stage::Between,
+        |stage, (at, byte)| step(stage, *byte).ok_or(at),
+    );
+    match read {
+        Ok(Stage::Between) => None,
+        Ok(_) => Some(text.len()),
+        Err(at) => Some(at),
     }
 }

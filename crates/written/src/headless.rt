@@ -19,12 +19,8 @@ fn is_head(text: &[u8], name: &[u8]) -> bool
 pub(crate) fn first_headless(text: &[u8]) -> Option<usize>
     ensures { (ts : List Placed) → Laid 0 ts text.now → result ≡ first_headless (heads_in (tokens ts)) ts }
 {
-    for token in Tokens::new(text) {
-        if let Token::Name(place, name) = token
-            && !is_head(text, name)
-        {
-            return Some(place);
-        }
-    }
-    None
+    Tokens::new(text).find_map(|token| match token {
+        Token::Name(place, name) if !is_head(text, name) => Some(place),
+        _ => None,
+    })
 }

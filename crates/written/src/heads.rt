@@ -38,7 +38,7 @@ impl<'a> Iterator for Heads<'a> {
     ghost remaining = { λ s. at_most (bytes_left s.tokens) };
 
     fn next(&mut self) -> Option<&'a [u8]> {
-        // Not by `find_map`: the tokens that are passed over change `between` on the way.
+        // By a loop: of what the closure of a `find_map` changes, as here `between`, a proof knows nothing afterwards.
         while let Some(token) = self.tokens.next() {
             match token {
                 Token::Name(_, head) if self.between => {
