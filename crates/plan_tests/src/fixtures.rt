@@ -10,6 +10,10 @@ use written::WrittenSheet;
 pub(crate) static SHEET_A: &str =
     "line : edit tail ; edit : \"move\" \"wall\" ; tail : \"size\" tail | ;";
 
+// A word takes four derivation steps, and the end of a line one.
+pub(crate) static SHEET_E: &str =
+    "line : order line | ; order : kind ; kind : name ; name : \"go\" ;";
+
 // The tables of a written sheet.
 pub(crate) fn tables_of(rt: &impl Abort, text: &str) -> Tables {
     let mut sheet = WrittenSheet::new();

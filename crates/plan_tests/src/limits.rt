@@ -1,16 +1,13 @@
 // Lines as long as they may be, in words and in derivation steps.
 use super::fixtures::{
-    SHEET_A, book, bring, bring_in_vain, bring_line, not_judged, tables_of, told, withdraw,
+    SHEET_A, SHEET_E, book, bring, bring_in_vain, bring_line, not_judged, tables_of, told, withdraw,
 };
 use book::{Book, NumberPage};
 use grammar::Refusal;
 use plan::Plan;
 use std::process::Abort;
 
-// A word takes four derivation steps, and the end of a line one.
-static SHEET_E: &str = "line : order line | ; order : kind ; kind : name ; name : \"go\" ;";
-
-// A word takes five, four of them before the next word.
+// A word takes five derivation steps, four of them before the next word.
 static STEEP: &str =
     "line : order line | ; order : kind ; kind : name ; name : act ; act : \"go\" ;";
 
