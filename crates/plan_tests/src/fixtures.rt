@@ -2,7 +2,6 @@
 use book::Book;
 use grammar::Refusal;
 use plan::{Plan, Slip};
-use std::alloc::AllocError;
 use std::process::Abort;
 use tables::Tables;
 use written::WrittenSheet;
@@ -10,6 +9,10 @@ use written::WrittenSheet;
 // Sentences are move wall and any number of sizes.
 pub(crate) static SHEET_A: &str =
     "line : edit tail ; edit : \"move\" \"wall\" ; tail : \"size\" tail | ;";
+
+// A word takes four derivation steps, and the end of a line one.
+pub(crate) static SHEET_E: &str =
+    "line : order line | ; order : kind ; kind : name ; name : \"go\" ;";
 
 // The tables of a written sheet.
 pub(crate) fn tables_of(rt: &impl Abort, text: &str) -> Tables {
@@ -24,6 +27,19 @@ pub(crate) fn tables_of(rt: &impl Abort, text: &str) -> Tables {
 pub(crate) fn bring<B: Book>(rt: &impl Abort, plan: &mut Plan<B>, designer: u8, words: &[u16]) {
     for word in words {
         assert!(rt; plan.word(designer, *word).is_ok(), "word {}", *word);
+    }
+}
+
+// Brings words that are all refused alike.
+pub(crate) fn bring_in_vain<B: Book>(
+    rt: &impl Abort,
+    plan: &mut Plan<B>,
+    designer: u8,
+    words: &[u16],
+    refusal: Refusal,
+) {
+    for word in words {
+        assert_eq!(rt; plan.word(designer, *word), Err(refusal), "word {}", *word);
     }
 }
 
@@ -89,31 +105,4 @@ pub(crate) fn not_withdrawn<B: Book>(
         Ok(()) => panic!(rt; "withdrawn"),
         Err(refused) => refused,
     }
-}
-
-fn push_times(numbers: &mut Vec<u16>, code: u16, times: u8) -> Result<(), AllocError> {
-    for _ in 0..times {
-        numbers.push(code)?;
-    }
-    Ok(())
-}
-
-// The entry of a line of sheet A behind what is there: the designer, the two lengths, the words and the rules.
-pub(crate) fn push_entry(
-    numbers: &mut Vec<u16>,
-    designer: u8,
-    sizes: u8,
-) -> Result<(), AllocError> {
-    let lengths = [
-        u16::from(designer),
-        u16::from(sizes) + 2,
-        u16::from(sizes) + 3,
-    ];
-    numbers.extend_from_slice(&lengths)?;
-    numbers.extend_from_slice(&[1, 2])?;
-    push_times(numbers, 3, sizes)?;
-    numbers.extend_from_slice(&[2, 4])?;
-    push_times(numbers, 3, sizes)?;
-    numbers.push(1)?;
-    Ok(())
 }

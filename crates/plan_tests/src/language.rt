@@ -1,4 +1,6 @@
 // Three sheets, with what their machines do decided from the words alone, without tables.
+use super::fixtures::{SHEET_A, SHEET_E};
+
 #[derive(Clone, Copy)]
 pub(crate) enum Language {
     // move wall and sizes
@@ -9,7 +11,7 @@ pub(crate) enum Language {
     Orders,
 }
 
-// The rules that are noted before a word is taken or the line ends: some, one of them so many times, and some.
+// Rules noted before a word is taken or the line ends, in order: the first ones, one rule so many times, the last ones.
 #[derive(Clone, Copy)]
 pub(crate) struct Noted {
     pub(crate) first: &'static [u16],
@@ -82,13 +84,9 @@ fn in_orders(words: usize, ahead: u16) -> Option<Noted> {
 impl Language {
     pub(crate) fn sheet(self) -> &'static str {
         match self {
-            Language::Edits => {
-                "line : edit tail ; edit : \"move\" \"wall\" ; tail : \"size\" tail | ;"
-            }
+            Language::Edits => SHEET_A,
             Language::Pairs => "line : \"(\" line \")\" line | ;",
-            Language::Orders => {
-                "line : order line | ; order : kind ; kind : name ; name : \"go\" ;"
-            }
+            Language::Orders => SHEET_E,
         }
     }
 

@@ -57,9 +57,11 @@ impl<'a> Tried<'a> {
         }
     }
 
-    // Whether a refusal of this number came.
-    fn was_refused(&self, number: usize) -> bool {
-        self.refused.get(number) == Some(&true)
+    // Whether refusals of all these numbers came.
+    fn all_came(&self, numbers: &[usize]) -> bool {
+        numbers
+            .iter()
+            .all(|number| self.refused.get(*number) == Some(&true))
     }
 
     // Brings a word, and tells whether it was taken.
@@ -243,13 +245,7 @@ fn run(rt: &impl Abort, language: Language, seed: u32, refusals: &[usize]) {
     spend(rt, &mut here, &mut there, g);
     spend(rt, &mut here, &mut there, h);
     assert!(rt; here.is_written() && there.is_written());
-    for number in refusals {
-        assert!(rt;
-            here.was_refused(*number) && there.was_refused(*number),
-            "refusal {}",
-            *number
-        );
-    }
+    assert!(rt; here.all_came(refusals) && there.all_came(refusals));
 }
 
 #[test]

@@ -1,12 +1,9 @@
 // Bookings in full pages, and what pages hold of many designers' lines.
-use super::fixtures::{
-    SHEET_A, book, bring, bring_line, not_booked, push_entry, tables_of, told, withdraw,
-};
+use super::fixtures::{SHEET_A, book, bring, bring_line, not_booked, tables_of, told, withdraw};
 use book::{Book, NumberPage, PrintedPage};
 use grammar::Refusal;
 use plan::Plan;
 use std::process::Abort;
-use std::test::Fail;
 
 // Books move wall size, which takes 10 numbers, where one fewer is free.
 #[test]
@@ -76,7 +73,7 @@ fn bring_in_turn<B: Book>(rt: &impl Abort, plan: &mut Plan<B>) {
 
 // Eight lines brought and judged side by side; the book has them in booking order, whatever the order of the rest.
 #[test]
-fn eight_designers_are_booked_in_order(rt: HostRuntime) -> Result<(), Fail> {
+fn eight_designers_are_booked_in_order(rt: HostRuntime) {
     let mut memory = [77; 70];
     let mut plan = Plan::open(tables_of(&rt, SHEET_A), NumberPage::open(&mut memory));
     bring_in_turn(&rt, &mut plan);
@@ -92,17 +89,15 @@ fn eight_designers_are_booked_in_order(rt: HostRuntime) -> Result<(), Fail> {
     assert_eq!(rt; book(&rt, &mut plan, b), 6);
     assert_eq!(rt; book(&rt, &mut plan, g), 7);
     assert_eq!(rt; book(&rt, &mut plan, e), 8);
-    let mut numbers = Vec::new(rt.alloc());
-    for designer in &[3, 0, 7] {
-        push_entry(&mut numbers, *designer, 0)?;
-    }
-    push_entry(&mut numbers, 5, 2)?;
-    for designer in &[2, 1, 6, 4] {
-        push_entry(&mut numbers, *designer, 0)?;
-    }
-    assert_eq!(rt; plan.page().numbers(), numbers.as_slice());
     assert_eq!(rt; plan.page().free(), 2);
-    Ok(())
+    assert_eq!(rt;
+        memory,
+        [
+            3, 2, 3, 1, 2, 2, 4, 1, 0, 2, 3, 1, 2, 2, 4, 1, 7, 2, 3, 1, 2, 2, 4, 1, 5, 4, 5, 1, 2,
+            3, 3, 2, 4, 3, 3, 1, 2, 2, 3, 1, 2, 2, 4, 1, 1, 2, 3, 1, 2, 2, 4, 1, 6, 2, 3, 1, 2, 2,
+            4, 1, 4, 2, 3, 1, 2, 2, 4, 1, 77, 77,
+        ]
+    );
 }
 
 // The bytes of a printed page, and none written behind them.
