@@ -48,9 +48,7 @@ fn of_rules(rules: Rules, state: usize) -> Option<Items>
     if useless(&rules).is_some() {
         return None;
     }
-    let Ok(states) = number(&rules) else {
-        return None;
-    };
+    let states = number(&rules).ok()?;
     of_machine(&Machine { rules, states }, state)
 }
 
