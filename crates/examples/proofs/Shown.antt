@@ -1,17 +1,29 @@
 -- The joint table, shown: by the certificates, and by computing the turns.
-use Rattle.std.proofs.Common.{◌≡◌, ℕ, true, false, ◌&&◌, ◌||◌, eqb, ◌⊎◌, ◌↔◌, sym, refl, inl, inr, ⊎_elim}
+use Rattle.std.proofs.Common.{◌≡◌, ℕ, zero, suc, ◌<◌, take, arith, true, false, ◌&&◌, ◌||◌, eqb, ◌⊎◌, ◌↔◌, sym, refl, inl, inr, ⊎_elim}
 use Rattle.std.proofs.lemmas.Bool.{and_parts, or_cases, eqb-true, false≢true}
 use Rattle.grammar.specs.Grammar.{left_side, right_side}
 use Rattle.grammar.specs.Lookahead.{Lookahead}
 use Rattle.grammar.specs.Line.{runs}
 use Rattle.grammar.specs.Outcome.{Outcome, Built, built}
+use Rattle.grammar.specs.Refusals.{told}
 use Rattle.grammar.specs.declared.action.Action.TheVariants.{Reduce}
-use Rattle.grammar.specs.declared.refusal.Refusal.TheVariants.{Conflict}
+use Rattle.grammar.specs.declared.refusal.Refusal.TheVariants.{Layout, Conflict}
+use Rattle.sheet.specs.Packing.{Lies, lowest, OffTold, tells}
 use Rattle.examples.specs.Tables.{automaton, cells}
-use Rattle.examples.specs.Sheets.{sheet_a, sheet_b, sheet_c, tables_a, tables_b}
+use Rattle.examples.specs.Sheets.{sheet_a, sheet_b, sheet_c, packed_a, tables_a, tables_b}
 use Rattle.examples.specs.Worked.{Worked}
 use Rattle.examples.proofs.OutcomeTest.{outcome, lookahead}
 use Rattle.examples.proofs.Certificates.{certificate_a, certificate_b, certificate_c, passed_a, passed_b, passed_c}
+
+-- The first three bodies are in their layout.
+first_lie : (j : ℕ) → j < 3 → Lies (take 20 packed_a) j
+first_lie zero h = (refl, omega arith)
+first_lie (suc zero) h = (refl, omega arith)
+first_lie (suc (suc zero)) h = (refl, omega arith)
+first_lie (suc (suc (suc j))) h = absurd (omega arith)
+
+a_cut : OffTold (take 20 packed_a) (told (Layout 4))
+a_cut = tells (lowest {r = 3} (omega arith) (omega arith) first_lie (λ l. absurd (omega (arith, l.1))))
 
 a_builds : Outcome sheet_a (built 8 (automaton tables_a) (cells tables_a))
 unfolding certificate_a tables_a
@@ -42,6 +54,8 @@ pub worked : Worked
 unfolding sheet_a tables_a tables_b left_side right_side runs
 worked =
     record {
+      a_packed = refl;
+      a_cut = a_cut;
       a_builds = a_builds;
       a_lookahead = a_lookahead;
       a_line = refl;

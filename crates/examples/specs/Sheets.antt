@@ -1,4 +1,4 @@
--- Three small sheets, and the tables of two, written out.
+-- Three small sheets, one of them packed, and the tables of two, written out.
 use Rattle.std.specs.Prelude.{ℕ, List, [], ◌∷◌}
 use Rattle.grammar.specs.Grammar.{Grammar, Rule}
 use Rattle.grammar.specs.declared.action.Action.TheVariants.{Shift, Accept, Reduce}
@@ -16,6 +16,17 @@ sheet_a =
       nonterminals = 3;
       rules = rule 4 (5 ∷ 6 ∷ []) ∷ rule 5 (1 ∷ 2 ∷ []) ∷ rule 6 (3 ∷ 6 ∷ []) ∷ rule 6 [] ∷ [];
     }
+
+-- Sheet A packed: the counts, the contents and the bodies.
+abbrev pub packed_a : List ℕ
+packed_a =
+    3 ∷ 3 ∷ 4
+    ∷ 7 ∷ 11 ∷ 15 ∷ 19
+    ∷ 4 ∷ 2 ∷ 5 ∷ 6
+    ∷ 5 ∷ 2 ∷ 1 ∷ 2
+    ∷ 6 ∷ 2 ∷ 3 ∷ 6
+    ∷ 6 ∷ 0
+    ∷ []
 
 -- Terminals 1 to 4, nonterminals 5 and 6. What may come behind 6 depends on the state: word 1 at first, and word 3 behind word 2.
 unfoldable pub sheet_b : Grammar

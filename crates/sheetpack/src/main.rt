@@ -9,10 +9,10 @@ use std::io::Write;
 use std::{env, io};
 use written::WrittenSheet;
 
-mod explain;
+mod refused;
 mod usage;
 
-use explain::explain;
+use refused::print_refused;
 use usage::usage;
 
 // The longest packing of a written sheet: 3 counts, 96 places and 96 bodies of 10 numbers.
@@ -95,6 +95,6 @@ fn main(rt: HostRuntime) -> io::Result<()> {
     let mut sheet = WrittenSheet::new();
     match sheet.open(text) {
         Ok(()) => print_sheet(&rt, &sheet),
-        Err(refusal) => explain(&rt, text, refusal),
+        Err(refusal) => print_refused(&rt, text, refusal),
     }
 }

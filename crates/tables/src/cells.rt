@@ -46,6 +46,7 @@ fn fill_row(machine: &Machine, lookaheads: &[[Option<WordSet>; 97]; 96], state: 
 }
 
 // The cells by state and word, none where there is no action; or the first conflict.
+#[inline(never)]
 pub(crate) fn fill(
     machine: &Machine,
     lookaheads: &[[Option<WordSet>; 97]; 96],

@@ -74,6 +74,7 @@ fn steps_by_state(machine: &Machine, null: &[bool; 88], state: usize, steps: &mu
 }
 
 // Lists all steps of includes.
+#[inline(never)]
 pub(crate) fn include_steps(machine: &Machine, null: &[bool; 88]) -> Steps
     requires { NullableMarks (grammar_of machine.now.rules) null.now }
     ensures { AllSteps machine.now.rules machine.now.states (listed result) }

@@ -16,6 +16,7 @@ use gather::{WordSet, gather};
 // The loops go by the numbers of states and rules: the machine is asked by both, and the sets go by both.
 
 // The follow sets of all transitions, by place: direct words gathered along reads are read sets, and those along includes are follow sets.
+#[inline(never)]
 fn follow_sets(machine: &Machine) -> [WordSet; 2304]
     ensures { SetsOf (FollowAt machine.now.rules machine.now.states) 2304 result }
 {
@@ -75,6 +76,7 @@ fn add_follows(
 }
 
 // The lookaheads by state and rule; none where the rule is not complete in the state.
+#[inline(never)]
 pub(crate) fn lookaheads(machine: &Machine) -> [[Option<WordSet>; 97]; 96]
     ensures { Lookaheads machine.now.rules machine.now.states result }
 {

@@ -63,6 +63,7 @@ fn row(rules: &Rules, lookup: &mut Lookup, s: usize) -> Result<(), Refusal>
 }
 
 // The numbered states of the rules; refused if a 97th is needed.
+#[inline(never)]
 pub(crate) fn number(rules: &Rules) -> Result<States, Refusal>
     ensures { MatchResult result (λ S. Numbered (grammar_of rules.now) S.count (automaton rules.now S)) (λ e. (e ≡ Refusal.States) × Crowded (grammar_of rules.now)) }
 {

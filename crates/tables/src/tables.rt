@@ -22,7 +22,10 @@ pub struct Tables {
     pub(crate) full: Option<Full>,
 }
 
+// The stages of a build are not inlined, here and in the other files, so that what one puts on the stack is gone when it ends.
+
 // The cells of numbered states, or the first conflict.
+#[inline(never)]
 fn with_cells(machine: Machine) -> Result<Full, Refusal>
     requires { UsefulNumbering machine.rules machine.states }
     ensures { Tabled (grammar_of machine.rules) result }
@@ -32,6 +35,7 @@ fn with_cells(machine: Machine) -> Result<Full, Refusal>
 }
 
 // The tables of rules within the limits and in range.
+#[inline(never)]
 fn of_rules(rules: Rules) -> Result<Full, Refusal>
     ensures { Tabled (grammar_of rules) result }
 {

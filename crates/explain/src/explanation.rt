@@ -1,0 +1,57 @@
+ghost use Rattle.std.specs.Prelude.{◌≡◌};
+
+use super::position::Position;
+use grammar::Refusal;
+use std::fmt;
+
+// Why a written sheet does not open.
+#[derive(Clone, Copy, PartialEq, Eq, Debug)]
+pub enum Explanation {
+    // the text ends within a statement
+    Unfinished,
+    // a byte that cannot stand there, or the first of a name that heads nothing
+    Misplaced(Position),
+    // a count or the length of a right side is outside its limits
+    Limits,
+}
+
+impl Explanation {
+    ghost use Rattle.explain.specs.Explanations.{explanation_of};
+
+    // None of a refusal that no opening gives.
+    pub fn of(text: &[u8], refusal: Refusal) -> Option<Explanation>
+        ensures { result ≡ explanation_of text.now refusal }
+    {
+        match refusal {
+            Refusal::Form { place } if place < text.len() => {
+                Some(Explanation::Misplaced(Position::of(text, place)))
+            }
+            Refusal::Form { .. } => Some(Explanation::Unfinished),
+            Refusal::Limits => Some(Explanation::Limits),
+            _ => None,
+        }
+    }
+}
+
+impl fmt::Display for Explanation {
+    ghost use Rattle.std.specs.Prelude.{Some};
+    ghost use Rattle.explain.specs.Explanations.{explanation_text};
+
+    ghost output = { λ e. Some (explanation_text e) };
+
+    fn fmt<W: fmt::Write>(&self, f: &mut fmt::Formatter<W>) -> fmt::Result {
+        match self {
+            Explanation::Unfinished => {
+                write!(f, "the sheet ends before its last statement does")
+            }
+            Explanation::Misplaced(position) => write!(
+                f,
+                "{position}: this cannot stand here, or it is a name that no statement begins with"
+            ),
+            Explanation::Limits => write!(
+                f,
+                "a sheet has 1 to 63 words, 1 to 24 phrase kinds and 1 to 96 rules, and at most 8 codes on a right side"
+            ),
+        }
+    }
+}
