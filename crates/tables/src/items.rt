@@ -48,7 +48,9 @@ fn of_rules(rules: Rules, state: usize) -> Option<Items>
     if useless(&rules).is_some() {
         return None;
     }
-    let states = number(&rules).ok()?;
+    let Ok(states) = number(&rules) else {
+        return None;
+    };
     of_machine(&Machine { rules, states }, state)
 }
 
