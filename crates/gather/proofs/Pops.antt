@@ -6,7 +6,7 @@ use Rattle.gather.specs.Gathered.{PartOf, JoinedFrom}
 use Rattle.gather.specs.Reach.{Step, Reaches, here}
 use Rattle.gather.specs.declared.visit.Visit.{Visit}
 use Rattle.gather.specs.declared.visit.Visit.TheVariants.{Unseen, Open, Done}
-use Rattle.gather.specs.Stack.{Snapshot, value, visit, mark, at, top, unseen, Closed, Completed, Sound, TakenIn, Walked}
+use Rattle.gather.specs.Stack.{Snapshot, value, visit, mark, at, top, unseen, LeftStack, Completed, Sound, TakenIn, Walked}
 use Rattle.gather.specs.Visits.{is_unseen, rank}
 use Rattle.gather.proofs.Counts.{is_seen, unseen_same}
 use Rattle.gather.proofs.Parts.{Lattice, part_trans, part_as}
@@ -235,7 +235,7 @@ module _ {M : Type 0} {none : M} {op : M → M → M} (laws : Lattice op) {targe
           ends = inl (top_is, done_in x (top s₀) (omega arith) u.there u.is);
         }
 
-  pub closed : visit s x ≡ Open (top s₀) → {s' : Snapshot M} → Closed none (value none s x) (top s₀) s s' → Sound none op targets seeds s₀ → Walked none op targets seeds s₀ s' x
+  pub closed : visit s x ≡ Open (top s₀) → {s' : Snapshot M} → LeftStack none (value none s x) (top s₀) s s' → Sound none op targets seeds s₀ → Walked none op targets seeds s₀ s' x
   closed root {s' = s'} shut w₀ =
       let ended = pop (ap rank root) s'.values s'.visits shut.completed w₀ in
       let same : ◌≡◌ {A = Snapshot M} (record { lent = s.lent; values = s'.values; visits = s'.visits; stack = take (top s₀) s.stack }) s' =

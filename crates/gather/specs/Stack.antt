@@ -66,7 +66,7 @@ pub record Completed {M : Type 0} (none v : M) (places : List ℕ) (values value
   pub others : (p : ℕ) → ((a : ℕ) → a < length places → slice_index places a ≢ p) → (slice_index_or visits' p Unseen ≡ slice_index_or visits p Unseen) × (slice_index_or values' p none ≡ slice_index_or values p none)
 
 -- The places from the height h of the stack on leave it, done, with the value v.
-pub record Closed {M : Type 0} (none v : M) (h : ℕ) (s s' : Snapshot M) : Type 0 where
+pub record LeftStack {M : Type 0} (none v : M) (h : ℕ) (s s' : Snapshot M) : Type 0 where
   pub lent : s'.lent ≡ s.lent
   pub completed : Completed none v (drop h s.stack) s.values s'.values s.visits s'.visits
   pub stack : s'.stack ≡ take h s.stack

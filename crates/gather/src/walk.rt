@@ -1,6 +1,6 @@
 ghost use Rattle.std.specs.Prelude.{◌≡◌, ℕ, ◌<◌, ◌≤◌, List, [], All, length};
 ghost use Rattle.gather.specs.Gathered.{Gathered};
-ghost use Rattle.gather.specs.Stack.{Closed, Completed, Ready, Sound, Walked, folded, pushed, snap, value};
+ghost use Rattle.gather.specs.Stack.{LeftStack, Completed, Ready, Sound, Walked, folded, pushed, snap, value};
 
 use super::join::Join;
 use super::relation::{Relation, Targets};
@@ -71,7 +71,7 @@ impl<'a, J: Join> Walk<'a, J> {
         requires value { place < length self.old.values.now }
         requires inside { All (λ p. p < length self.old.values.now) self.old.stack }
         requires few { length self.old.values.now ≤ 2304 }
-        ensures { Closed J.none (value J.none (snap self.old) place) low (snap self.old) (snap self.new) }
+        ensures { LeftStack J.none (value J.none (snap self.old) place) low (snap self.old) (snap self.new) }
     {
         let value = self.values[place];
         complete(self.values, &mut self.visits, self.stack.above(low), value);

@@ -48,6 +48,7 @@ impl Slip {
     pub(crate) fn settled<T>(self, answer: Result<T, Refusal>) -> Result<T, (Refusal, Slip)>
         ensures { result ≡ handed self answer }
     {
+        // Both arms take the slip, which closures for `map` and `map_err` could not share.
         match answer {
             Ok(done) => {
                 self.spend();

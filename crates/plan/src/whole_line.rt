@@ -58,6 +58,7 @@ impl<B: Book> Plan<B> {
         ensures grown { Grown B.grows self.old.book self.new.book }
         ensures kept { self.new.tables ≡ self.old.tables }
     {
+        // Both arms take the plan, which closures for `and_then` and `map_err` could not share.
         match self.judge_words(designer, words) {
             Ok(slip) => self.settle(slip),
             Err(refusal) => {

@@ -46,6 +46,7 @@ impl<S: RuleSheet> Supplement<S> {
         if rules >= 96 || self.own.is_full() {
             return Err(Refusal::Limits);
         }
+        // No `From` makes a refusal of what does not fit: `grammar` and `bounded`, where it could stand, do not know each other.
         let rule = ShortRule::with_codes(left, codes).map_err(|_| Refusal::Limits)?;
         if !in_range(self, left, codes) {
             return Err(Refusal::Range { rule: rules + 1 });

@@ -24,9 +24,10 @@ fn packs_to(rt: &impl Abort, text: &str, numbers: &[u16]) {
     let mut sheet = WrittenSheet::new();
     assert!(rt; sheet.open(text.as_bytes()).is_ok(), "{}", text);
     let mut out = [0; 64];
-    let size = pack(&sheet, &mut out).unwrap_or(0);
+    let size = numbers.len();
     assert!(rt; size <= 64);
-    assert!(rt; &out[0..size] == numbers, "{}", text);
+    assert!(rt; pack(&sheet, &mut out) == Some(size), "{}", text);
+    assert!(rt; &out[..size] == numbers, "{}", text);
     let mut packed = PackedSheet::new();
     assert!(rt; packed.open(numbers).is_ok(), "{}", text);
     assert!(rt; alike(&sheet, &packed), "{}", text);

@@ -93,6 +93,7 @@ impl Draft {
             Token::Mark(_, Mark::Bar) => self.divide(),
             Token::Mark(_, Mark::Semicolon) => self.close(),
         };
+        // No `From` makes a refusal of what does not fit: `grammar` and `bounded`, where it could stand, do not know each other.
         taken.map_err(|_| Refusal::Limits)
     }
 }

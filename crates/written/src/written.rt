@@ -48,6 +48,7 @@ impl<'a> WrittenSheet<'a> {
         if let Some(place) = form_fault(text) {
             return Err(Refusal::Form { place });
         }
+        // Without `From`, as in `draft`.
         let names = Names::of(text).map_err(|_| Refusal::Limits)?;
         if !names.counts_within() {
             return Err(Refusal::Limits);

@@ -2,7 +2,7 @@ use Rattle.std.proofs.Common.{◌≡◌, ◌<◌, List, length, refl, rules, sym
 use Rattle.std.proofs.lemmas.List.{get_or_default}
 use Rattle.gather.specs.declared.visit.Visit.TheVariants.{Unseen, Open}
 use Rattle.gather.specs.Reach.{Step}
-use Rattle.gather.specs.Stack.{Closed, snap, value, visit, top}
+use Rattle.gather.specs.Stack.{LeftStack, snap, value, visit, top}
 use Rattle.gather.proofs.Calls.{outside, seen_before, walked_from}
 use Rattle.gather.proofs.Folds.{fold_turn}
 use Rattle.gather.proofs.Listed.{nth_some, nth_none, listed_at}
@@ -101,7 +101,7 @@ returns-then-eq-2 g t c =
     let it = c.loop-target.invariant in
     let all = nth_none (g.R.Relation.targets c.args.relation.now c.args.place) c.loop-target.target-iterator.k (listed_at g.R.Relation.targets c.loop-target.target-iterator.k it.relation it.place c.in-None.ensures.steps.0) in
     λ seeds s. closed (laws g) (it.turn seeds s) all (root ∙ ap Open c.height-height.ensures)
-    (subst (λ h. Closed g.J.Join.none (value g.J.Join.none (snap c.loop-target.self) c.args.place) h (snap c.loop-target.self) (snap c.close.new.self)) c.height-height.ensures c.close.ensures) s
+    (subst (λ h. LeftStack g.J.Join.none (value g.J.Join.none (snap c.loop-target.self) c.args.place) h (snap c.loop-target.self) (snap c.close.new.self)) c.height-height.ensures c.close.ensures) s
 
 pub returns-else-eq-2 : goal.returns-else-eq-2
 returns-else-eq-2 g t c =
