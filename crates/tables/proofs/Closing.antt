@@ -39,6 +39,31 @@ module _ (R : Rules) where
     seeded_none =
         record { size = length-replicate 88 false; from = λ X h. absurd (in_none 88 X h); onto = λ i h. absurd (omega arith) }
 
+    pub seeded_more : (n : ℕ) (ahead : List Bool) (code : ℕ) → In xs n → code ≡ get_or R.right n 0 → Seeded n ahead → Seeded (n + 1) (set ahead code true)
+    seeded_more n ahead code has is s =
+        record {
+          size = length-set ahead code true ∙ s.size;
+          from = λ X h. elim (in_split ahead code X h) [
+            | inl e ↦ record { item = n; has = has; code = sym is ∙ sym e }
+            | inr l ↦ s.from X l
+          ];
+          onto = λ i h t. elim (cases_eq i n) [
+            | inl e ↦ subst (λ j. In (set ahead code true) (get_or R.right j 0)) (sym e) (subst (λ Y. In (set ahead code true) Y) is (in_set ahead code (omega (arith, code_below n, is, s.size))))
+            | inr ne ↦ in_keeps ahead code _ (s.onto i (omega arith) t)
+          ];
+        }
+
+    pub seeded_skip : (n : ℕ) (ahead : List Bool) → get_or xs n false ≡ false → Seeded n ahead → Seeded (n + 1) ahead
+    seeded_skip n ahead out s =
+        record {
+          size = s.size;
+          from = s.from;
+          onto = λ i h t. elim (cases_eq i n) [
+            | inl e ↦ absurd (both_ways _ out (subst (λ j. In xs j) e t))
+            | inr ne ↦ s.onto i (omega arith) t
+          ];
+        }
+
     pub seeded_all : (n : ℕ) (ahead : List Bool) → 9 * R.count + 9 ≤ n → Seeded n ahead → Waiting R xs ahead
     seeded_all n ahead far s =
         record {

@@ -1,5 +1,5 @@
 -- The direct words of a state and those behind a transition.
-use Rattle.std.proofs.Common.{◌≡◌, ℕ, ◌<◌, ◌≤◌, false, List, get_or, sym, ◌∙◌, subst, arith, Some, None}
+use Rattle.std.proofs.Common.{◌≡◌, ℕ, ◌<◌, ◌≤◌, false, List, get_or, sym, ◌∙◌, subst, arith, Option, Some, None, MatchOption}
 use Rattle.std.proofs.lemmas.Bool.{both_ways}
 use Rattle.std.proofs.lemmas.Option.{none-some}
 use Rattle.grammar.specs.Grammar.{Grammar, IsTerminal}
@@ -50,7 +50,7 @@ module _ (R : Rules) (S : States) where
   behind_below i w d = direct_below d.is_transition.to w d.direct
 
   -- The words behind a transition are those of the state behind it.
-  pub words_behind : (l : List WordSet) (i t : ℕ) → SetsOf (DirectIn R S) 96 l → Some t ≡ A.goto (transition_at R i).0 (transition_at R i).1 → WordsBelow (DirectAt R S i) 64 (get_or l t no_members)
+  words_behind : (l : List WordSet) (i t : ℕ) → SetsOf (DirectIn R S) 96 l → Some t ≡ A.goto (transition_at R i).0 (transition_at R i).1 → WordsBelow (DirectAt R S i) 64 (get_or l t no_members)
   words_behind l i t s e =
       let l : t < 96 = omega (arith, behind_place R S i t e, S.few) in
       record {
@@ -58,6 +58,11 @@ module _ (R : Rules) (S : States) where
         whole = λ w b d. s.whole t w l (subst (λ q. Direct G A q w) (one_goto R S (transition_at R i).0 (transition_at R i).1 d.is_transition.move (sym e)) d.direct);
       }
 
-  pub words_nowhere : (x : WordSet) (i : ℕ) → ((w : ℕ) → has x w ≡ false) → None ≡ A.goto (transition_at R i).0 (transition_at R i).1 → WordsBelow (DirectAt R S i) 64 x
+  words_nowhere : (x : WordSet) (i : ℕ) → ((w : ℕ) → has x w ≡ false) → None ≡ A.goto (transition_at R i).0 (transition_at R i).1 → WordsBelow (DirectAt R S i) 64 x
   words_nowhere x i none_has e =
       words_all (DirectAt R S i) 0 64 x (λ w d. absurd (none-some _ (e ∙ d.is_transition.move))) (words_none (DirectAt R S i) x none_has)
+
+  -- Both, by the state behind or none.
+  pub words_told : (l : List WordSet) (x : WordSet) (i : ℕ) (o : Option ℕ) (y : WordSet) → SetsOf (DirectIn R S) 96 l → ((w : ℕ) → has x w ≡ false) → o ≡ A.goto (transition_at R i).0 (transition_at R i).1 → MatchOption o (y ≡ x) (λ t. y ≡ get_or l t no_members) → WordsBelow (DirectAt R S i) 64 y
+  words_told l x i None y s none_has e m = subst (λ z. WordsBelow (DirectAt R S i) 64 z) (sym m) (words_nowhere x i none_has e)
+  words_told l x i (Some t) y s none_has e m = subst (λ z. WordsBelow (DirectAt R S i) 64 z) (sym m) (words_behind l i t s e)

@@ -1,12 +1,12 @@
 -- The items of a state, or why there are none.
-use Rattle.std.proofs.Common.{◌≡◌, ℕ, ◌<◌, ◌≤◌, true, false, ◌&&◌, is_some, None, Some, Ok, Err, sym, ◌∙◌, ap, arith, MatchOption, Option, Result}
+use Rattle.std.proofs.Common.{◌≡◌, ℕ, ◌<◌, ◌≤◌, true, false, ◌&&◌, is_some, None, Some, Ok, Err, sym, ◌∙◌, ap, subst, arith, MatchOption, MatchResult, Option, Result}
 use Rattle.std.specs.Result.{result_ok}
 use Rattle.std.proofs.lemmas.Bool.{lt-ltb, true≢false, false≢true}
 use Rattle.std.proofs.lemmas.Option.{none-some}
 use Rattle.grammar.specs.Grammar.{Grammar}
 use Rattle.grammar.specs.ItemLists.{items_of}
 use Rattle.grammar.specs.StateLists.{has_at, state_at}
-use Rattle.grammar.specs.States.{Automaton, Crowded}
+use Rattle.grammar.specs.States.{Automaton, Crowded, Numbered}
 use Rattle.grammar.specs.Outcome.{LowestUseless}
 use Rattle.grammar.specs.declared.refusal.Refusal.{Refusal}
 use Rattle.grammar.proofs.NotCrowded.{not_crowded}
@@ -37,12 +37,17 @@ module _ (R : Rules) where
     useless_none None u h = absurd (true≢false h)
     useless_none (Some X) l h = record { past = λ n A N. absurd (N.sound.useful X l.useless) }
 
-    pub crowded_none : Crowded (grammar_of R) → NoState (grammar_of R) s
-    crowded_none c = record { past = λ n A N. absurd (not_crowded (grammar_of R) n A N.few N.numbered c) }
+    pub crowded_none : (r : Result States Refusal) → MatchResult r (λ S. Numbered (grammar_of R) S.count (automaton R S)) (λ e. (e ≡ Refusal.States) × Crowded (grammar_of R)) → None ≡ result_ok r → NoState (grammar_of R) s
+    crowded_none (Ok S) m h = absurd (none-some _ h)
+    crowded_none (Err e) m h = record { past = λ n A N. absurd (not_crowded (grammar_of R) n A N.few N.numbered m.1) }
 
   pub all_useful : (o : Option ℕ) → MatchOption o (AllUseful (grammar_of R)) (λ X. LowestUseless (grammar_of R) X) → false ≡ is_some o → AllUseful (grammar_of R)
   all_useful None u h = u
   all_useful (Some X) l h = absurd (false≢true h)
+
+  pub useful_numbering : (S : States) (r : Result States Refusal) → MatchResult r (λ S. Numbered (grammar_of R) S.count (automaton R S)) (λ e. (e ≡ Refusal.States) × Crowded (grammar_of R)) → Some S ≡ result_ok r → AllUseful (grammar_of R) → UsefulNumbering R S
+  useful_numbering S (Ok T) m h u = record { useful = u; numbered = subst (λ o. MatchOption o ⊥ (λ U. Numbered (grammar_of R) U.count (automaton R U))) (sym h) m }
+  useful_numbering S (Err e) m h u = absurd (none-some _ (sym h))
 
   module _ (S : States) (numbering : UsefulNumbering R S) (s : ℕ) where
     pub past_none : S.count ≤ s → NoState (grammar_of R) s

@@ -11,9 +11,10 @@ pub(crate) fn waiting(rules: &Rules, items: &[bool; 873]) -> [bool; 88]
     ensures { Waiting rules.now items.now result }
 {
     let mut ahead = [false; 88];
-    for (i, is_in) in items[..9 * usize::from(rules.count) + 9].iter().enumerate() {
+    let end = 9 * usize::from(rules.count) + 9;
+    for (is_in, code) in items[..end].iter().zip(&rules.right) {
         if *is_in {
-            ahead[usize::from(rules.right[i])] = true;
+            ahead[usize::from(*code)] = true;
         }
     }
     ahead

@@ -39,10 +39,9 @@ fn direct_behind(machine: &Machine, direct: &[WordSet; 96], place: usize) -> Wor
     requires { SetsOf (DirectIn machine.now.rules machine.now.states) 96 direct.now }
     ensures { WordsBelow (DirectAt machine.now.rules machine.now.states place) 64 result }
 {
-    match machine.behind(place) {
-        Some(state) => direct[state],
-        None => WordSet::empty(),
-    }
+    machine
+        .behind(place)
+        .map_or(WordSet::empty(), |state| direct[state])
 }
 
 // The direct words behind all transitions, by place.

@@ -22,14 +22,11 @@ fn nullable_from(rules: &Rules, null: &[bool; 88], rule: usize) -> usize
     requires marks { NullableMarks (grammar_of rules.now) null.now }
     ensures { NullableFrom (grammar_of rules.now) rule result }
 {
-    let last = rules
+    rules
         .codes(rule)
         .iter()
-        .rposition(|code| null.get(usize::from(*code)) != Some(&true));
-    match last {
-        Some(dot) => dot + 1,
-        None => 0,
-    }
+        .rposition(|code| null.get(usize::from(*code)) != Some(&true))
+        .map_or(0, |dot| dot + 1)
 }
 
 // Lists the steps that a rule gives in a state that moves by the rule's left side.

@@ -1,5 +1,6 @@
 // The items of one state of a sheet's machine, also where its cells conflict, so that no tables hold it.
 ghost use Rattle.std.specs.Prelude.{◌≡◌};
+ghost use Rattle.tables.specs.AllUseful.{AllUseful};
 ghost use Rattle.tables.specs.Arrays.{grammar_of};
 ghost use Rattle.tables.specs.Numbering.{UsefulNumbering};
 ghost use Rattle.tables.specs.StateItems.{StateItems, has_item};
@@ -40,18 +41,24 @@ fn of_machine(machine: &Machine, state: usize) -> Option<Items>
     })
 }
 
+// The items of a state of the machine of rules that are all of use.
+fn of_useful(rules: Rules, state: usize) -> Option<Items>
+    requires { AllUseful (grammar_of rules) }
+    ensures { StateItems (grammar_of rules) state result }
+{
+    let states = number(&rules).ok()?;
+    of_machine(&Machine { rules, states }, state)
+}
+
 // The items of a state of the machine of rules.
-#[tactic(auto, using(crate::proofs::StateItems::useless_none, crate::proofs::StateItems::all_useful, crate::proofs::StateItems::crowded_none))]
+#[tactic(auto, using(crate::proofs::StateItems::useless_none, crate::proofs::StateItems::all_useful))]
 fn of_rules(rules: Rules, state: usize) -> Option<Items>
     ensures { StateItems (grammar_of rules) state result }
 {
     if useless(&rules).is_some() {
         return None;
     }
-    let Ok(states) = number(&rules) else {
-        return None;
-    };
-    of_machine(&Machine { rules, states }, state)
+    of_useful(rules, state)
 }
 
 // The items of a state of a sheet's machine, whether or not its cells conflict; none where the sheet has no such state.

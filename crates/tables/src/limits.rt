@@ -9,7 +9,7 @@ use super::rules::Rules;
 use grammar::Refusal;
 use sheet::RuleSheet;
 
-// Here a sheet tells nothing only where nothing is asked for, so that what it tells can be read with 0 for nothing.
+// Rules and codes are asked for only where there are such, so the 0 of `unwrap_or(0)` is never told.
 
 // The lengths of the right sides by rule, with that of rule 0, of a sheet within the limits.
 fn lengths<S: RuleSheet>(sheet: &S) -> Result<[u8; 97], Refusal>

@@ -1,16 +1,17 @@
-use Rattle.std.proofs.Common.{arith}
+use Rattle.std.proofs.Common.{ℕ, ◌≡◌, refl, sym, ◌∙◌, arith, Option, Some, None, MatchOption, rules, get_or}
+use Rattle.gather.specs.Members.{no_members}
 use Rattle.tables.proofs.Transitions.{behind_place}
-use Rattle.tables.proofs.DirectWords.{words_behind, words_nowhere}
+use Rattle.tables.proofs.DirectWords.{words_told}
 use Rattle.tables.proofs.direct.direct_behind.Goals as goal
 
-pub offset_bounds-direct-state : goal.offset_bounds-direct-state
-offset_bounds-direct-state c = let m = c.args.machine.now in omega (arith, behind_place m.rules m.states c.args.place c.in-Some.state c.in-Some.ensures, m.states.few)
+pub map_or-requires : goal.map_or-requires
+map_or-requires c x e = let m = c.args.machine.now in let low = behind_place m.rules m.states c.args.place x (sym e ∙ c.behind.ensures) in ((λ k l w n. omega (arith, low, m.states.few)), (λ k l w n. omega (arith, low, m.states.few)))
 
-pub bounds-direct-state : goal.bounds-direct-state
-bounds-direct-state c = let m = c.args.machine.now in omega (arith, behind_place m.rules m.states c.args.place c.in-Some.state c.in-Some.ensures, m.states.few)
-
-pub returns-in-Some : goal.returns-in-Some
-returns-in-Some c = let m = c.args.machine.now in words_behind m.rules m.states c.args.direct.now c.args.place c.in-Some.state c.requires c.in-Some.ensures
-
-pub returns-in-None : goal.returns-in-None
-returns-in-None c = let m = c.args.machine.now in words_nowhere m.rules m.states c.empty.result c.args.place c.empty.ensures c.in-None.ensures
+pub returns : goal.returns
+returns c =
+    let m = c.args.machine.now in
+    words_told m.rules m.states c.args.direct.now c.empty.result c.args.place c.behind.result c.map_or.result c.requires c.empty.ensures c.behind.ensures (by c.behind.result refl)
+  where
+    by : (o : Option ℕ) → c.behind.result ≡ o → MatchOption o (c.map_or.result ≡ c.empty.result) (λ t. c.map_or.result ≡ get_or c.args.direct.now t no_members)
+    by None e = search rules
+    by (Some t) e = search rules
