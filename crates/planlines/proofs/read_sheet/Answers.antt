@@ -13,4 +13,4 @@ returns-in_err-open c =
 pub returns-in_err-build : goal.returns-in_err-build
 returns-in_err-build c =
     let p = err_from_is_err_and c.from_residual-in_err-build.result c.from_residual-in_err-build.ensures.1 in
-    rw (p.1, p.2) (not_built {c = contents c.open.new.self} c.in_ok-open.ensures c.in_err-build.ensures.1)
+    rw (p.1, p.2) (not_built {c = contents c.open.new.self} c.in_ok-open.ensures c.in_err-build.ensures.is.1)
