@@ -104,7 +104,10 @@ fn too_many_states(rt: HostRuntime) -> Result<(), Fail> {
     is_refused(
         &rt,
         rt.alloc(),
-        r#"s:"a""a""a""a""a""a""a""a"|"b""b""b""b""b""b""b""b"|"c""c""c""c""c""c""c""c"|"d""d""d""d""d""d""d""d"|"e""e""e""e""e""e""e""e"|"f""f""f""f""f""f""f""f"|"g""g""g""g""g""g""g""g"|"h""h""h""h""h""h""h""h"|"i""i""i""i""i""i""i""i"|"j""j""j""j""j""j""j""j"|"k""k""k""k""k""k""k""k"|"l""l""l""l""l""l""l";"#,
+        r#"s : "a""a""a""a""a""a""a""a" | "b""b""b""b""b""b""b""b" | "c""c""c""c""c""c""c""c"
+| "d""d""d""d""d""d""d""d" | "e""e""e""e""e""e""e""e" | "f""f""f""f""f""f""f""f"
+| "g""g""g""g""g""g""g""g" | "h""h""h""h""h""h""h""h" | "i""i""i""i""i""i""i""i"
+| "j""j""j""j""j""j""j""j" | "k""k""k""k""k""k""k""k" | "l""l""l""l""l""l""l" ;"#,
         "6\nthe sheet needs more than 96 states\n",
     )
 }
