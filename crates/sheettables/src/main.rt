@@ -13,6 +13,8 @@ mod reason;
 mod refused;
 mod spelled;
 mod state;
+#[cfg(test)]
+mod tests;
 mod usage;
 
 use refused::print_refused;

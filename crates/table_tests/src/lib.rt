@@ -4,6 +4,8 @@
 #[cfg(test)]
 mod conflicts;
 #[cfg(test)]
+mod items;
+#[cfg(test)]
 mod limits;
 #[cfg(test)]
 mod lookaheads;

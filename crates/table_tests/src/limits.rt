@@ -114,7 +114,7 @@ fn right_sides(rt: HostRuntime) -> Result<(), Fail> {
 }
 
 // Each of eleven words eight times, and a twelfth as told: a state for each word, and two more.
-fn chains(heap: Global, nonterminals: u16, last: &[u16]) -> Result<Script, AllocError> {
+pub(crate) fn chains(heap: Global, nonterminals: u16, last: &[u16]) -> Result<Script, AllocError> {
     let mut script = Script::new(heap, 12, nonterminals);
     for word in 1..12 {
         script.rule(13, &[word; 8])?;
