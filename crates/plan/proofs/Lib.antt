@@ -13,3 +13,4 @@ pub mod Promised
 pub mod Histories
 pub mod LawKept
 pub mod WholeLines
+pub mod WholeCalls

@@ -13,6 +13,7 @@ pub mod Lines
 pub mod Plans
 pub mod Bookings
 pub mod WholeLines
+pub mod WholeCalls
 pub mod History
 pub mod WorkedEntry
 pub mod Theorems

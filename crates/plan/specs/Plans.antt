@@ -24,7 +24,7 @@ abbrev pub book_step : {B : Type 0} → (B → ℕ) → PlanValue B → SlipMode
 book_step free p s = book_call (held p.tables) p.model (free p.book) s
 
 -- A booking done adds the step's numbers to the book, in the book's own way to grow; a refused one leaves it the same.
-abbrev pub BookGrows : {C B : Type 0} → (C → List ℕ → C → Type 0) → C → List ℕ → Result B (Refusal × SlipModel) → C → Type 0
+abbrev pub BookGrows : {C B E : Type 0} → (C → List ℕ → C → Type 0) → C → List ℕ → Result B E → C → Type 0
 BookGrows grows b numbers (Ok x) b' = grows b numbers b'
 BookGrows grows b numbers (Err e) b' = b' ≡ b
 
