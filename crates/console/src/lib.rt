@@ -3,8 +3,9 @@
 
 ghost use Rattle.std.specs.Prelude.{◌≡◌, ◌≤◌, ◌<◌, length, take, IfOk, OnErr};
 ghost use Rattle.std.specs.Io.KnownBytes.{Consumes, IsAtEnd};
-ghost use Rattle.console.specs.Fill.{ConsumesFront};
+ghost use Rattle.console.specs.Fill.{ConsumesFront, TextRead};
 
+use std::alloc::Global;
 use std::io;
 use std::io::Read;
 
@@ -33,4 +34,26 @@ pub fn fill<R: Read>(source: &mut R, buffer: &mut [u8]) -> io::Result<usize>
         have += more;
     }
     Ok(have)
+}
+
+// One byte more than the most is asked for, by which a longer input is known.
+#[tactic(auto, using(crate::proofs::Reading::text_unread))]
+fn read_within<R: Read>(alloc: Global, source: &mut R, most: usize) -> io::Result<Option<Vec<u8>>>
+    requires { most < usize.MAX }
+    ensures { TextRead most (R.remaining source.old) (R.remaining source.new) result }
+{
+    let mut buffer = vec![in alloc; 0u8; most + 1]?;
+    let have = fill(source, &mut buffer)?;
+    if have > most {
+        return Ok(None);
+    }
+    buffer.truncate(have);
+    Ok(Some(buffer))
+}
+
+// Reads all that the source has, or gives none where that is more than `MOST` bytes.
+pub fn read_text<R: Read>(alloc: Global, source: &mut R) -> io::Result<Option<Vec<u8>>>
+    ensures { TextRead MOST (R.remaining source.old) (R.remaining source.new) result }
+{
+    read_within(alloc, source, MOST)
 }
