@@ -4,7 +4,7 @@
 ghost use Rattle.planlines.specs.ReadSheets.{SheetRead};
 
 use book::{Book, PrintedPage};
-use console::{MOST, fill};
+use console::read_text;
 use grammar::Refusal;
 use plan::Plan;
 use std::io::Write;
@@ -74,12 +74,10 @@ fn main(rt: HostRuntime) -> io::Result<()> {
     if env::args(&rt)?.len() > 1 {
         return usage(&rt);
     }
-    let mut buffer = vec![in rt.alloc(); 0u8; MOST + 1]?;
-    let have = fill(&mut rt.stdin(), &mut buffer)?;
-    if have > MOST {
+    let Some(input) = read_text(rt.alloc(), &mut rt.stdin())? else {
         return println!(rt; "too long");
-    }
-    let (text, lines) = divide(&buffer[..have]);
+    };
+    let (text, lines) = divide(&input);
     match read_sheet(text) {
         Ok((sheet, tables)) => print_plan(&rt, &sheet, tables, lines),
         Err(refusal) => print_refused(&rt, refusal),

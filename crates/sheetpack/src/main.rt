@@ -2,7 +2,7 @@
 // It is printed part by part, with no Display, since spellings are bytes of a text and a sheet is of any kind; so output and sheet go together.
 #![tactic(auto)]
 
-use console::{MOST, fill};
+use console::read_text;
 use grammar::Refusal;
 use sheet::{PackedSheet, RuleSheet, pack};
 use std::io::Write;
@@ -86,15 +86,12 @@ fn main(rt: HostRuntime) -> io::Result<()> {
     if env::args(&rt)?.len() > 1 {
         return usage(&rt);
     }
-    let mut buffer = vec![in rt.alloc(); 0u8; MOST + 1]?;
-    let have = fill(&mut rt.stdin(), &mut buffer)?;
-    if have > MOST {
+    let Some(text) = read_text(rt.alloc(), &mut rt.stdin())? else {
         return println!(rt; "too long");
-    }
-    let text = &buffer[..have];
+    };
     let mut sheet = WrittenSheet::new();
-    match sheet.open(text) {
+    match sheet.open(&text) {
         Ok(()) => print_sheet(&rt, &sheet),
-        Err(refusal) => print_refused(&rt, text, refusal),
+        Err(refusal) => print_refused(&rt, &text, refusal),
     }
 }

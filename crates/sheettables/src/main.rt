@@ -1,7 +1,7 @@
 // Tells the tables of the written rule sheet on standard input, or why it has none.
 #![tactic(auto)]
 
-use console::{MOST, fill};
+use console::read_text;
 use grammar::Refusal;
 use std::{env, io};
 use tables::Tables;
@@ -54,16 +54,13 @@ fn main(rt: HostRuntime) -> io::Result<()> {
     if env::args(&rt)?.len() > 1 {
         return usage(&rt);
     }
-    let mut buffer = vec![in rt.alloc(); 0u8; MOST + 1]?;
-    let have = fill(&mut rt.stdin(), &mut buffer)?;
-    if have > MOST {
+    let Some(text) = read_text(rt.alloc(), &mut rt.stdin())? else {
         return println!(rt; "too long");
-    }
-    let text = &buffer[..have];
+    };
     let mut sheet = WrittenSheet::new();
     let mut tables = Tables::new();
-    match build(&mut sheet, &mut tables, text) {
+    match build(&mut sheet, &mut tables, &text) {
         Ok(()) => print_states(&rt, &sheet, &tables),
-        Err(refusal) => print_refused(&rt, text, &sheet, refusal),
+        Err(refusal) => print_refused(&rt, &text, &sheet, refusal),
     }
 }

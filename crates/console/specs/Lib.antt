@@ -1,0 +1,2 @@
+-- What reading into a buffer takes from its source.
+pub mod Fill
