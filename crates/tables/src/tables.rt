@@ -1,8 +1,9 @@
 // Tables: blank, or rules with exactly their tables.
 ghost use Rattle.tables.specs.Arrays.{grammar_of};
-ghost use Rattle.tables.specs.Building.{BuiltFrom, OnlyBuild, Tabled, held};
+ghost use Rattle.tables.specs.Building.{BuiltFrom, MachineOf, OnlyBuild, Tabled, held};
+ghost use Rattle.tables.specs.Cells.{Filled};
 ghost use Rattle.tables.specs.Numbering.{UsefulNumbering};
-ghost use Rattle.tables.specs.Held.{Held};
+ghost use Rattle.tables.specs.Held.{Exactly, Held};
 ghost use Rattle.std.specs.Prelude.{◌≡◌};
 
 use super::cells::fill;
@@ -13,7 +14,7 @@ use super::machine::Machine;
 use super::numbering::number;
 use super::rules::Rules;
 use super::useful::useless;
-use grammar::Refusal;
+use grammar::{Action, Refusal};
 use sheet::RuleSheet;
 
 // No model, since it would hide the ghost field `exact` of what is held, on which the crates above rest.
@@ -24,20 +25,10 @@ pub struct Tables {
 
 // The stages of a build are not inlined, here and in the other files, so that what one puts on the stack is gone when it ends.
 
-// The cells of numbered states, or the first conflict.
+// The rules with their numbered states.
 #[inline(never)]
-fn with_cells(machine: Machine) -> Result<Full, Refusal>
-    requires { UsefulNumbering machine.rules machine.states }
-    ensures { Tabled (grammar_of machine.rules) result }
-{
-    let cells = fill(&machine, &lookaheads(&machine))?;
-    Ok(Full { machine, cells })
-}
-
-// The tables of rules within the limits and in range.
-#[inline(never)]
-fn of_rules(rules: Rules) -> Result<Full, Refusal>
-    ensures { Tabled (grammar_of rules) result }
+fn numbered(rules: Rules) -> Result<Machine, Refusal>
+    ensures { MachineOf (grammar_of rules) result }
 {
     if let Some(code) = useless(&rules) {
         return Err(Refusal::Useless {
@@ -45,7 +36,37 @@ fn of_rules(rules: Rules) -> Result<Full, Refusal>
         });
     }
     let states = number(&rules)?;
-    with_cells(Machine { rules, states })
+    Ok(Machine { rules, states })
+}
+
+// The cells of numbered states, or the first conflict.
+#[inline(never)]
+fn cells_of(machine: &Machine) -> Result<[[Option<Action>; 64]; 96], Refusal>
+    requires { UsefulNumbering machine.now.rules machine.now.states }
+    ensures { Filled machine.now.rules machine.now.states result }
+{
+    fill(machine, &lookaheads(machine))
+}
+
+// Puts a machine and its tables together.
+#[inline(never)]
+fn hold(full: &mut Option<Full>, machine: Machine, cells: [[Option<Action>; 64]; 96])
+    requires { Exactly machine.rules machine.states cells }
+    ensures { Tabled (grammar_of machine.rules) (Ok tt) full.new }
+{
+    *full = Some(Full { machine, cells });
+}
+
+// Makes the tables of rules within the limits and in range.
+#[inline(never)]
+fn tabled(rules: Rules, full: &mut Option<Full>) -> Result<(), Refusal>
+    requires { full.old ≡ None }
+    ensures { Tabled (grammar_of rules) result full.new }
+{
+    let machine = numbered(rules)?;
+    let cells = cells_of(&machine)?;
+    hold(full, machine, cells);
+    Ok(())
 }
 
 impl Tables {
@@ -57,14 +78,12 @@ impl Tables {
     }
 
     // Builds the tables of any sheet, whatever they held before; refused, they are blank.
-    #[tactic(auto, using(crate::proofs::Admissions::unread_told, crate::proofs::Outcomes::built_tables, crate::proofs::OnlyBuilds::only_build))]
+    #[tactic(auto, using(crate::proofs::Admissions::unread_told, crate::proofs::Outcomes::tabled_built, crate::proofs::OnlyBuilds::only_build))]
     pub fn build<S: RuleSheet>(&mut self, sheet: &S) -> Result<(), Refusal>
         ensures is { BuiltFrom (S.RuleSheet.meaning sheet.now) result (held self.new) }
         ensures alone { OnlyBuild (S.RuleSheet.meaning sheet.now) result (held self.new) }
     {
         self.full = None;
-        let full = of_rules(read(sheet)?)?;
-        self.full = Some(full);
-        Ok(())
+        tabled(read(sheet)?, &mut self.full)
     }
 }

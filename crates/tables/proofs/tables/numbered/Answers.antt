@@ -1,6 +1,6 @@
 use Rattle.std.proofs.lemmas.Result.{err_from_is_err_and}
 use Rattle.tables.proofs.Outcomes.{useless_told, crowded_told}
-use Rattle.tables.proofs.tables.of_rules.Goals as goal
+use Rattle.tables.proofs.tables.numbered.Goals as goal
 
 pub returns-in-Some : goal.returns-in-Some
 returns-in-Some c = rw c.from.ensures (useless_told c.args.rules c.in-Some.code c.in-Some.ensures)
