@@ -9,7 +9,7 @@ ghost use Rattle.std.specs.Prelude.{◌≡◌};
 use super::cells::fill;
 use super::full::Full;
 use super::limits::read;
-use super::lookahead::lookaheads;
+use super::lookahead::look_ahead;
 use super::machine::Machine;
 use super::numbering::number;
 use super::rules::Rules;
@@ -45,7 +45,9 @@ fn cells_of(machine: &Machine) -> Result<[[Option<Action>; 64]; 96], Refusal>
     requires { UsefulNumbering machine.now.rules machine.now.states }
     ensures { Filled machine.now.rules machine.now.states result }
 {
-    fill(machine, &lookaheads(machine))
+    let mut sets = [[None; 97]; 96];
+    look_ahead(machine, &mut sets);
+    fill(machine, &sets)
 }
 
 // Puts a machine and its tables together.
