@@ -22,9 +22,9 @@ abbrev pub held : Tables → Held
 held t = held_by t.full
 
 -- The rules have numbered states, or are refused as the definitions decide.
-abbrev pub MachineOf : Grammar → Result Machine Refusal → Type 0
-MachineOf G (Ok m) = (grammar_of m.rules ≡ G) × UsefulNumbering m.rules m.states
-MachineOf G (Err e) = Outcome G (refused e)
+abbrev pub NumberedFrom : Grammar → Result (Unit {0}) Refusal → Machine → Type 0
+NumberedFrom G (Ok x) m = (grammar_of m.rules ≡ G) × UsefulNumbering m.rules m.states
+NumberedFrom G (Err e) m = Outcome G (refused e)
 
 -- The rules are tabled, or nothing is and they are refused as the definitions decide.
 abbrev pub Tabled : Grammar → Result (Unit {0}) Refusal → Option Full → Type 0

@@ -36,7 +36,7 @@ fn group_includes(machine: &Machine, null: &[bool; 88], groups: &mut Grouped)
 
 // The follow sets of all transitions, by place: direct words gathered along reads are read sets, and those along includes are follow sets.
 #[inline(never)]
-fn follow_sets(machine: &Machine) -> [WordSet; 2304]
+pub(crate) fn follow_sets(machine: &Machine) -> [WordSet; 2304]
     ensures { SetsOf (FollowAt machine.now.rules machine.now.states) 2304 result }
 {
     let null = &nullable(&machine.rules);
@@ -97,12 +97,16 @@ fn add_follows(
 
 // Sets the lookaheads by state and rule, in sets that the caller lends; none where the rule is not complete in the state.
 #[inline(never)]
-pub(crate) fn look_ahead(machine: &Machine, sets: &mut [[Option<WordSet>; 97]; 96])
-    requires { sets.old ≡ replicate 96 (replicate 97 None) }
+pub(crate) fn look_ahead(
+    machine: &Machine,
+    follow: &[WordSet; 2304],
+    sets: &mut [[Option<WordSet>; 97]; 96],
+)
+    requires follow { SetsOf (FollowAt machine.now.rules machine.now.states) 2304 follow.now }
+    requires none { sets.old ≡ replicate 96 (replicate 97 None) }
     ensures { Lookaheads machine.now.rules machine.now.states sets.new }
 {
-    let follow = follow_sets(machine);
     for state in 0..machine.states.count {
-        add_follows(machine, &follow, state, sets);
+        add_follows(machine, follow, state, sets);
     }
 }

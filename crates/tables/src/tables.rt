@@ -1,19 +1,22 @@
 // Tables: blank, or rules with exactly their tables.
 ghost use Rattle.tables.specs.Arrays.{grammar_of};
-ghost use Rattle.tables.specs.Building.{BuiltFrom, MachineOf, OnlyBuild, Tabled, held};
+ghost use Rattle.tables.specs.Building.{BuiltFrom, NumberedFrom, OnlyBuild, Tabled, held};
 ghost use Rattle.tables.specs.Cells.{Filled};
-ghost use Rattle.tables.specs.Numbering.{UsefulNumbering};
+ghost use Rattle.tables.specs.Transitions.{FollowAt};
+ghost use Rattle.tables.specs.WordSets.{SetsOf};
 ghost use Rattle.tables.specs.Held.{Exactly, Held};
 ghost use Rattle.std.specs.Prelude.{◌≡◌};
 
 use super::cells::fill;
 use super::full::Full;
 use super::limits::read;
-use super::lookahead::look_ahead;
+use super::lookahead::{follow_sets, look_ahead};
 use super::machine::Machine;
 use super::numbering::number;
 use super::rules::Rules;
+use super::states::States;
 use super::useful::useless;
+use gather::WordSet;
 use grammar::{Action, Refusal};
 use sheet::RuleSheet;
 
@@ -25,32 +28,35 @@ pub struct Tables {
 
 // The stages of a build are not inlined, here and in the other files, so that what one puts on the stack is gone when it ends.
 
-// The rules with their numbered states.
+// Numbers the states of the rules.
 #[inline(never)]
-fn numbered(rules: Rules) -> Result<Machine, Refusal>
-    ensures { MachineOf (grammar_of rules) result }
+fn numbered(machine: &mut Machine) -> Result<(), Refusal>
+    ensures { NumberedFrom (grammar_of machine.old.rules) result machine.new }
 {
-    if let Some(code) = useless(&rules) {
+    if let Some(code) = useless(&machine.rules) {
         return Err(Refusal::Useless {
             nonterminal: u16::from(code),
         });
     }
-    let states = number(&rules)?;
-    Ok(Machine { rules, states })
+    machine.states = number(&machine.rules)?;
+    Ok(())
 }
 
-// The cells of numbered states, or the first conflict.
+// The cells of a machine with its follow sets, or the first conflict.
 #[inline(never)]
-fn cells_of(machine: &Machine) -> Result<[[Option<Action>; 64]; 96], Refusal>
-    requires { UsefulNumbering machine.now.rules machine.now.states }
+fn cells_of(
+    machine: &Machine,
+    follow: &[WordSet; 2304],
+) -> Result<[[Option<Action>; 64]; 96], Refusal>
+    requires { SetsOf (FollowAt machine.now.rules machine.now.states) 2304 follow.now }
     ensures { Filled machine.now.rules machine.now.states result }
 {
     let mut sets = [[None; 97]; 96];
-    look_ahead(machine, &mut sets);
+    look_ahead(machine, follow, &mut sets);
     fill(machine, &sets)
 }
 
-// Puts a machine and its tables together.
+// Puts a machine and its cells together.
 #[inline(never)]
 fn hold(full: &mut Option<Full>, machine: Machine, cells: [[Option<Action>; 64]; 96])
     requires { Exactly machine.rules machine.states cells }
@@ -65,8 +71,13 @@ fn tabled(rules: Rules, full: &mut Option<Full>) -> Result<(), Refusal>
     requires { full.old ≡ None }
     ensures { Tabled (grammar_of rules) result full.new }
 {
-    let machine = numbered(rules)?;
-    let cells = cells_of(&machine)?;
+    let mut machine = Machine {
+        rules,
+        states: States::new(),
+    };
+    numbered(&mut machine)?;
+    let follow = follow_sets(&machine);
+    let cells = cells_of(&machine, &follow)?;
     hold(full, machine, cells);
     Ok(())
 }

@@ -3,9 +3,9 @@ use Rattle.tables.proofs.Outcomes.{useless_told, crowded_told}
 use Rattle.tables.proofs.tables.numbered.Goals as goal
 
 pub returns-in-Some : goal.returns-in-Some
-returns-in-Some c = rw c.from.ensures (useless_told c.args.rules c.in-Some.code c.in-Some.ensures)
+returns-in-Some c = rw c.from.ensures (useless_told c.args.machine.now.rules c.in-Some.code c.in-Some.ensures)
 
-pub returns-in_err-states : goal.returns-in_err-states
-returns-in_err-states c =
+pub returns-in_err-machine : goal.returns-in_err-machine
+returns-in_err-machine c =
     let p = err_from_is_err_and c.from_residual.result c.from_residual.ensures.1 in
-    rw (p.1, p.2, c.in_err-states.ensures.0) (crowded_told c.args.rules c.in_default.ensures c.in_err-states.ensures.1)
+    rw (p.1, p.2, c.in_err-machine.ensures.0) (crowded_told c.args.machine.now.rules c.in_default.ensures c.in_err-machine.ensures.1)
