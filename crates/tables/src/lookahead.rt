@@ -34,20 +34,30 @@ fn group_includes(machine: &Machine, null: &[bool; 88], groups: &mut Grouped)
     groups.group(&steps);
 }
 
-// The follow sets of all transitions, by place: direct words gathered along reads are read sets, and those along includes are follow sets.
+// The follow sets, by place: direct words gathered along reads are read sets, and those along includes are follow sets.
+#[inline(never)]
+fn gathered_sets(machine: &Machine, null: &[bool; 88], includes: &Grouped) -> [WordSet; 2304]
+    requires marks { NullableMarks (grammar_of machine.now.rules) null.now }
+    requires includes { IncludesGrouped machine.now.rules machine.now.states includes.now }
+    ensures { SetsOf (FollowAt machine.now.rules machine.now.states) 2304 result }
+{
+    let mut sets = direct_by_place(machine);
+    let gathered = gather(&mut sets, &Reads { machine, null });
+    prove!(gathered.is_ok());
+    let gathered = gather(&mut sets, includes);
+    prove!(gathered.is_ok());
+    sets
+}
+
+// The follow sets of all transitions, by place.
 #[inline(never)]
 pub(crate) fn follow_sets(machine: &Machine) -> [WordSet; 2304]
     ensures { SetsOf (FollowAt machine.now.rules machine.now.states) 2304 result }
 {
-    let null = &nullable(&machine.rules);
-    let mut sets = direct_by_place(machine);
-    let gathered = gather(&mut sets, &Reads { machine, null });
-    prove!(gathered.is_ok());
+    let null = nullable(&machine.rules);
     let mut includes = Grouped::new();
-    group_includes(machine, null, &mut includes);
-    let gathered = gather(&mut sets, &includes);
-    prove!(gathered.is_ok());
-    sets
+    group_includes(machine, &null, &mut includes);
+    gathered_sets(machine, &null, &includes)
 }
 
 // The words of both sets, the first of which may be missing.
