@@ -1,5 +1,5 @@
 -- What the stages found, as outcomes of building.
-use Rattle.std.proofs.Common.{◌≡◌, ℕ, List, Some, Ok, ap, subst, inl, inr, Option}
+use Rattle.std.proofs.Common.{◌≡◌, ℕ, List, Some, None, Ok, Err, ap, subst, inl, inr, Option, Result}
 use mathlib.Core.Logic.{∥∥₁_map}
 use Rattle.grammar.specs.Grammar.{Grammar}
 use Rattle.grammar.specs.Useful.{Useless}
@@ -15,7 +15,7 @@ use Rattle.tables.specs.AllUseful.{AllUseful}
 use Rattle.tables.specs.Arrays.{grammar_of, automaton}
 use Rattle.tables.specs.Cells.{cell_at, Conflicting}
 use Rattle.tables.specs.declared.full.Full.{Full}
-use Rattle.tables.specs.Building.{BuiltFrom, held_by}
+use Rattle.tables.specs.Building.{BuiltFrom, Tabled, held_by}
 use Rattle.tables.specs.Held.{Exactly, holding}
 use Rattle.tables.specs.Numbering.{UsefulNumbering}
 use Rattle.tables.proofs.RuleArrays.{within_rules, in_range_rules}
@@ -57,3 +57,9 @@ module _ (R : Rules) (S : States) (n : UsefulNumbering R S) where
 pub built_tables : (G : Grammar) (f : Full) → grammar_of f.machine.rules ≡ G → BuiltFrom G (Ok tt) (held_by (Some f))
 built_tables G f e =
     ∥∥₁_map f.exact (λ x. (f.machine.states.count, automaton f.machine.rules f.machine.states, cell_at f.cells, ap (λ G. holding G f.machine.states.count (automaton f.machine.rules f.machine.states) (cell_at f.cells)) e, subst (λ G. Outcome G (built f.machine.states.count (automaton f.machine.rules f.machine.states) (cell_at f.cells))) e x.outcome))
+
+-- What is tabled, or refused, is built.
+pub tabled_built : (G : Grammar) (r : Result (Unit {0}) Refusal) (o : Option Full) → Tabled G r o → BuiltFrom G r (held_by o)
+tabled_built G (Ok x) None t = absurd t
+tabled_built G (Ok x) (Some f) t = built_tables G f t
+tabled_built G (Err e) o t = (ap held_by t.0, t.1)

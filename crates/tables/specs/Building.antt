@@ -6,10 +6,12 @@ use Rattle.grammar.specs.Outcome.{Outcome, built, refused}
 use Rattle.grammar.specs.declared.action.Action.{Action}
 use Rattle.grammar.specs.declared.refusal.Refusal.{Refusal}
 use Rattle.tables.specs.declared.full.Full.{Full}
+use Rattle.tables.specs.declared.machine.Machine.{Machine}
 use Rattle.tables.specs.declared.tables.Tables.{Tables}
 use Rattle.tables.specs.Arrays.{grammar_of, automaton}
 use Rattle.tables.specs.Cells.{cell_at}
 use Rattle.tables.specs.Held.{Held, blank, holding}
+use Rattle.tables.specs.Numbering.{UsefulNumbering}
 
 abbrev pub held_by : Option Full → Held
 held_by None = blank
@@ -19,10 +21,16 @@ held_by (Some f) = holding (grammar_of f.machine.rules) f.machine.states.count (
 abbrev pub held : Tables → Held
 held t = held_by t.full
 
--- The rules are tabled, or refused as the definitions decide.
-abbrev pub Tabled : Grammar → Result Full Refusal → Type 0
-Tabled G (Ok f) = grammar_of f.machine.rules ≡ G
-Tabled G (Err e) = Outcome G (refused e)
+-- The rules have numbered states, or are refused as the definitions decide.
+abbrev pub NumberedFrom : Grammar → Result (Unit {0}) Refusal → Machine → Type 0
+NumberedFrom G (Ok x) m = (grammar_of m.rules ≡ G) × UsefulNumbering m.rules m.states
+NumberedFrom G (Err e) m = Outcome G (refused e)
+
+-- The rules are tabled, or nothing is and they are refused as the definitions decide.
+abbrev pub Tabled : Grammar → Result (Unit {0}) Refusal → Option Full → Type 0
+Tabled G (Ok x) None = ⊥
+Tabled G (Ok x) (Some f) = grammar_of f.machine.rules ≡ G
+Tabled G (Err e) o = (o ≡ None) × Outcome G (refused e)
 
 -- Done: the tables hold the grammar with just the states and cells that building it comes to. Refused: they are blank.
 abbrev pub BuiltFrom : Grammar → Result (Unit {0}) Refusal → Held → Type 0

@@ -1,5 +1,5 @@
 // The relation includes: from a transition inside a right side, with only nullable codes behind it, to that of the left side.
-ghost use Rattle.std.specs.Prelude.{◌+◌, ◌≤◌, slice_index};
+ghost use Rattle.std.specs.Prelude.{◌≡◌, ◌+◌, ◌≤◌, [], slice_index};
 ghost use Rattle.bounded.specs.BoundedList.{listed};
 ghost use Rattle.grammar.specs.Lookahead.{Transition};
 ghost use Rattle.tables.specs.Arrays.{automaton, grammar_of};
@@ -9,7 +9,6 @@ ghost use Rattle.tables.specs.NullableMarks.{NullableMarks};
 use super::machine::Machine;
 use super::rules::Rules;
 use super::step::{Step, Steps};
-use bounded::BoundedList;
 
 // That the marks are right is a `requires`, and no ghost field of a struct with the machine: such a field takes a fact that has at most one proof, and a nullable code has one for each of its trees.
 // A truncated fact, `∥ .. ∥₁`, would say only that there are trees, and not give them out. The contracts here need the trees themselves: each listed step comes with those of the codes behind its dot.
@@ -70,18 +69,13 @@ fn steps_by_state(machine: &Machine, null: &[bool; 88], state: usize, steps: &mu
     }
 }
 
-// Lists all steps of includes.
-#[inline(never)]
-pub(crate) fn include_steps(machine: &Machine, null: &[bool; 88]) -> Steps
-    requires { NullableMarks (grammar_of machine.now.rules) null.now }
-    ensures { AllSteps machine.now.rules machine.now.states (listed result) }
+// Lists all steps of includes, in a list that the caller lends.
+pub(crate) fn include_steps(machine: &Machine, null: &[bool; 88], steps: &mut Steps)
+    requires marks { NullableMarks (grammar_of machine.now.rules) null.now }
+    requires none { listed steps.old ≡ [] }
+    ensures { AllSteps machine.now.rules machine.now.states (listed steps.new) }
 {
-    let mut steps = BoundedList::new(Step {
-        source: 0,
-        target: 0,
-    });
     for state in 0..machine.states.count {
-        steps_by_state(machine, null, state, &mut steps);
+        steps_by_state(machine, null, state, steps);
     }
-    steps
 }

@@ -1,33 +1,63 @@
 // The lookahead of each rule in each state.
-ghost use Rattle.std.specs.Prelude.{◌≡◌, ℕ, ◌+◌, ◌*◌, ◌≤◌, ◌||◌};
+ghost use Rattle.std.specs.Prelude.{◌≡◌, ℕ, ◌+◌, ◌*◌, ◌≤◌, ◌||◌, None, replicate};
 ghost use Rattle.gather.specs.Members.{has};
+ghost use Rattle.tables.specs.Arrays.{grammar_of};
+ghost use Rattle.tables.specs.Groups.{IncludesGrouped};
 ghost use Rattle.tables.specs.Lookaheads.{Lookaheads, LookaheadsUpto, member};
+ghost use Rattle.tables.specs.NullableMarks.{NullableMarks};
 ghost use Rattle.tables.specs.Transitions.{FollowAt};
 ghost use Rattle.tables.specs.WordSets.{SetsOf};
 
 use super::direct::direct_by_place;
-use super::grouping::grouped;
+use super::grouped::Grouped;
 use super::includes::include_steps;
 use super::machine::Machine;
 use super::nullable::nullable;
 use super::reads::Reads;
+use super::step::Step;
+use bounded::BoundedList;
 use gather::{WordSet, gather};
 
 // The loops go by the numbers of states and rules: the machine is asked by both, and the sets go by both.
 
-// The follow sets of all transitions, by place: direct words gathered along reads are read sets, and those along includes are follow sets.
+// Groups the steps of includes. Their list is the longest of a build's arrays, and gone when this ends.
 #[inline(never)]
-fn follow_sets(machine: &Machine) -> [WordSet; 2304]
+fn group_includes(machine: &Machine, null: &[bool; 88], groups: &mut Grouped)
+    requires { NullableMarks (grammar_of machine.now.rules) null.now }
+    ensures { IncludesGrouped machine.now.rules machine.now.states groups.new }
+{
+    let mut steps = BoundedList::new(Step {
+        source: 0,
+        target: 0,
+    });
+    include_steps(machine, null, &mut steps);
+    groups.group(&steps);
+}
+
+// The follow sets, by place: direct words gathered along reads are read sets, and those along includes are follow sets.
+#[inline(never)]
+fn gathered_sets(machine: &Machine, null: &[bool; 88], includes: &Grouped) -> [WordSet; 2304]
+    requires marks { NullableMarks (grammar_of machine.now.rules) null.now }
+    requires includes { IncludesGrouped machine.now.rules machine.now.states includes.now }
     ensures { SetsOf (FollowAt machine.now.rules machine.now.states) 2304 result }
 {
-    let null = &nullable(&machine.rules);
     let mut sets = direct_by_place(machine);
     let gathered = gather(&mut sets, &Reads { machine, null });
     prove!(gathered.is_ok());
-    let includes = grouped(&include_steps(machine, null));
-    let gathered = gather(&mut sets, &includes);
+    let gathered = gather(&mut sets, includes);
     prove!(gathered.is_ok());
     sets
+}
+
+// The follow sets of all transitions, by place.
+#[inline(never)]
+pub(crate) fn follow_sets(machine: &Machine) -> [WordSet; 2304]
+    ensures { SetsOf (FollowAt machine.now.rules machine.now.states) 2304 result }
+{
+    let null = nullable(&machine.rules);
+    let mut includes = Grouped::new();
+    group_includes(machine, &null, &mut includes);
+    gathered_sets(machine, &null, &includes)
 }
 
 // The words of both sets, the first of which may be missing.
@@ -75,15 +105,18 @@ fn add_follows(
     }
 }
 
-// The lookaheads by state and rule; none where the rule is not complete in the state.
+// Sets the lookaheads by state and rule, in sets that the caller lends; none where the rule is not complete in the state.
 #[inline(never)]
-pub(crate) fn lookaheads(machine: &Machine) -> [[Option<WordSet>; 97]; 96]
-    ensures { Lookaheads machine.now.rules machine.now.states result }
+pub(crate) fn look_ahead(
+    machine: &Machine,
+    follow: &[WordSet; 2304],
+    sets: &mut [[Option<WordSet>; 97]; 96],
+)
+    requires follow { SetsOf (FollowAt machine.now.rules machine.now.states) 2304 follow.now }
+    requires none { sets.old ≡ replicate 96 (replicate 97 None) }
+    ensures { Lookaheads machine.now.rules machine.now.states sets.new }
 {
-    let follow = follow_sets(machine);
-    let mut sets = [[None; 97]; 96];
     for state in 0..machine.states.count {
-        add_follows(machine, &follow, state, &mut sets);
+        add_follows(machine, follow, state, sets);
     }
-    sets
 }

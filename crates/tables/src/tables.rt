@@ -1,19 +1,23 @@
 // Tables: blank, or rules with exactly their tables.
 ghost use Rattle.tables.specs.Arrays.{grammar_of};
-ghost use Rattle.tables.specs.Building.{BuiltFrom, OnlyBuild, Tabled, held};
-ghost use Rattle.tables.specs.Numbering.{UsefulNumbering};
-ghost use Rattle.tables.specs.Held.{Held};
+ghost use Rattle.tables.specs.Building.{BuiltFrom, NumberedFrom, OnlyBuild, Tabled, held};
+ghost use Rattle.tables.specs.Cells.{Filled};
+ghost use Rattle.tables.specs.Transitions.{FollowAt};
+ghost use Rattle.tables.specs.WordSets.{SetsOf};
+ghost use Rattle.tables.specs.Held.{Exactly, Held};
 ghost use Rattle.std.specs.Prelude.{◌≡◌};
 
 use super::cells::fill;
 use super::full::Full;
 use super::limits::read;
-use super::lookahead::lookaheads;
+use super::lookahead::{follow_sets, look_ahead};
 use super::machine::Machine;
 use super::numbering::number;
 use super::rules::Rules;
+use super::states::States;
 use super::useful::useless;
-use grammar::Refusal;
+use gather::WordSet;
+use grammar::{Action, Refusal};
 use sheet::RuleSheet;
 
 // No model, since it would hide the ghost field `exact` of what is held, on which the crates above rest.
@@ -24,28 +28,58 @@ pub struct Tables {
 
 // The stages of a build are not inlined, here and in the other files, so that what one puts on the stack is gone when it ends.
 
-// The cells of numbered states, or the first conflict.
+// Numbers the states of the rules.
 #[inline(never)]
-fn with_cells(machine: Machine) -> Result<Full, Refusal>
-    requires { UsefulNumbering machine.rules machine.states }
-    ensures { Tabled (grammar_of machine.rules) result }
+fn numbered(machine: &mut Machine) -> Result<(), Refusal>
+    ensures { NumberedFrom (grammar_of machine.old.rules) result machine.new }
 {
-    let cells = fill(&machine, &lookaheads(&machine))?;
-    Ok(Full { machine, cells })
-}
-
-// The tables of rules within the limits and in range.
-#[inline(never)]
-fn of_rules(rules: Rules) -> Result<Full, Refusal>
-    ensures { Tabled (grammar_of rules) result }
-{
-    if let Some(code) = useless(&rules) {
+    if let Some(code) = useless(&machine.rules) {
         return Err(Refusal::Useless {
             nonterminal: u16::from(code),
         });
     }
-    let states = number(&rules)?;
-    with_cells(Machine { rules, states })
+    machine.states = number(&machine.rules)?;
+    Ok(())
+}
+
+// The cells of a machine with its follow sets, or the first conflict.
+#[inline(never)]
+fn cells_of(
+    machine: &Machine,
+    follow: &[WordSet; 2304],
+) -> Result<[[Option<Action>; 64]; 96], Refusal>
+    requires { SetsOf (FollowAt machine.now.rules machine.now.states) 2304 follow.now }
+    ensures { Filled machine.now.rules machine.now.states result }
+{
+    let mut sets = [[None; 97]; 96];
+    look_ahead(machine, follow, &mut sets);
+    fill(machine, &sets)
+}
+
+// Puts a machine and its cells together.
+#[inline(never)]
+fn hold(full: &mut Option<Full>, machine: Machine, cells: [[Option<Action>; 64]; 96])
+    requires { Exactly machine.rules machine.states cells }
+    ensures { Tabled (grammar_of machine.rules) (Ok tt) full.new }
+{
+    *full = Some(Full { machine, cells });
+}
+
+// Makes the tables of rules within the limits and in range.
+#[inline(never)]
+fn tabled(rules: Rules, full: &mut Option<Full>) -> Result<(), Refusal>
+    requires { full.old ≡ None }
+    ensures { Tabled (grammar_of rules) result full.new }
+{
+    let mut machine = Machine {
+        rules,
+        states: States::new(),
+    };
+    numbered(&mut machine)?;
+    let follow = follow_sets(&machine);
+    let cells = cells_of(&machine, &follow)?;
+    hold(full, machine, cells);
+    Ok(())
 }
 
 impl Tables {
@@ -57,14 +91,12 @@ impl Tables {
     }
 
     // Builds the tables of any sheet, whatever they held before; refused, they are blank.
-    #[tactic(auto, using(crate::proofs::Admissions::unread_told, crate::proofs::Outcomes::built_tables, crate::proofs::OnlyBuilds::only_build))]
+    #[tactic(auto, using(crate::proofs::Admissions::unread_told, crate::proofs::Outcomes::tabled_built, crate::proofs::OnlyBuilds::only_build))]
     pub fn build<S: RuleSheet>(&mut self, sheet: &S) -> Result<(), Refusal>
         ensures is { BuiltFrom (S.RuleSheet.meaning sheet.now) result (held self.new) }
         ensures alone { OnlyBuild (S.RuleSheet.meaning sheet.now) result (held self.new) }
     {
         self.full = None;
-        let full = of_rules(read(sheet)?)?;
-        self.full = Some(full);
-        Ok(())
+        tabled(read(sheet)?, &mut self.full)
     }
 }

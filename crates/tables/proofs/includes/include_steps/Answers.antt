@@ -5,7 +5,7 @@ use Rattle.tables.proofs.IncludeSteps.{no_steps, all_steps}
 use Rattle.tables.proofs.includes.include_steps.Goals as goal
 
 pub loop-state-init : goal.loop-state-init
-loop-state-init c = no_steps _ _ _ (ap length c.new-steps.ensures)
+loop-state-init c = no_steps _ _ _ (ap length c.requires.none)
 
 pub returns : goal.returns
 returns c =

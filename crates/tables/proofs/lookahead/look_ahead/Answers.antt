@@ -1,10 +1,10 @@
-use Rattle.std.proofs.Common.{◌≡◌, ◌+◌, ◌*◌, subst, arith}
+use Rattle.std.proofs.Common.{◌≡◌, ◌+◌, ◌*◌, sym, subst, arith}
 use Rattle.tables.specs.Lookaheads.{LookaheadsUpto}
 use Rattle.tables.proofs.Lookaheads.{upto_none, upto_all}
-use Rattle.tables.proofs.lookahead.lookaheads.Goals as goal
+use Rattle.tables.proofs.lookahead.look_ahead.Goals as goal
 
 pub loop-state-init : goal.loop-state-init
-loop-state-init c = upto_none c.args.machine.now.rules c.args.machine.now.states
+loop-state-init c = subst (λ l. LookaheadsUpto c.args.machine.now.rules c.args.machine.now.states 1 l) (sym c.requires.none) (upto_none c.args.machine.now.rules c.args.machine.now.states)
 
 pub returns : goal.returns
 returns c =
