@@ -30,6 +30,7 @@ pub struct Tables {
 
 // Numbers the states of the rules.
 #[inline(never)]
+#[tactic(auto, using(crate::proofs::Outcomes::useless_told, crate::proofs::Outcomes::crowded_told))]
 fn numbered(machine: &mut Machine) -> Result<(), Refusal>
     ensures { NumberedFrom (grammar_of machine.old.rules) result machine.new }
 {
