@@ -13,6 +13,7 @@ use super::trial::Trial;
 use grammar::Refusal;
 use tables::Tables;
 
+// Tables come beside a line, here and in `machine`: the plan keeps one for all its lines.
 impl Line {
     // Whether a turn is allowed: the tables are not blank, and the line is open.
     fn allow(&self, tables: &Tables) -> Result<(), Refusal>
