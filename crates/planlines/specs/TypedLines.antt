@@ -5,7 +5,7 @@ use Rattle.std.specs.List.{slice_split}
 use Rattle.written.specs.NamesOf.{word_code_told}
 use Rattle.written.specs.WrittenSheets.{contents}
 use Rattle.written.specs.declared.written.WrittenSheet.{WrittenSheet}
-use Rattle.planlines.specs.declared.designer_line.TypedLine.{TypedLine}
+use Rattle.planlines.specs.declared.typed_line.TypedLine.{TypedLine}
 
 -- The spellings of parts of a line.
 abbrev pub spelled : List (Bor (List ℕ)) → List (List ℕ)

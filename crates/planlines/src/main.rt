@@ -12,12 +12,12 @@ use std::{env, io};
 use tables::Tables;
 use written::WrittenSheet;
 
-mod designer_line;
 mod divide;
+mod typed_line;
 mod usage;
 
-use designer_line::read_line;
 use divide::divide;
+use typed_line::read_line;
 use usage::usage;
 
 // The bytes of the page: room for 10,000 numbers.

@@ -1,7 +1,7 @@
 use Rattle.std.proofs.Common.{rules, tests, length, not, ◌==◌}
 use Rattle.std.proofs.lemmas.Iterator.Consumers.{YieldsList-at, YieldsList-from_filter, map_from_collect}
 use Rattle.std.proofs.lemmas.Iterator.Splits.{YieldsList-from_slice_split}
-use Rattle.planlines.proofs.designer_line.tokens.Goals as goal
+use Rattle.planlines.proofs.typed_line.tokens.Goals as goal
 
 pub returns : goal.returns
 returns c =
