@@ -2,9 +2,6 @@
 use Rattle.std.proofs.Common.{◌≡◌, ℕ, suc, ◌+◌, ◌-◌, ◌<◌, ◌≤◌, Bool, true, false, cond, leb, List, [], ◌∷◌, ◌++◌, length, drop, Ok, Err, sym, refl, ap, ◌∙◌, subst, inl, inr, arith, Option, Some, None}
 use Rattle.std.proofs.lemmas.List.{append_assoc, append-nil, length_push}
 use Rattle.std.proofs.lemmas.Bool.{cases_Bool, cond-true, cond-false, leb-true, leb-false}
-use Rattle.grammar.specs.Refusals.{told}
-use Rattle.grammar.specs.declared.refusal.Refusal.{Refusal}
-use Rattle.grammar.specs.declared.refusal.Refusal.TheVariants.{NoAction}
 use Rattle.grammar.specs.Grammar.{Grammar, left_side, right_side}
 use Rattle.grammar.specs.Derivation.{is_rule}
 use Rattle.grammar.specs.States.{Automaton}
@@ -14,6 +11,9 @@ use Rattle.grammar.specs.declared.action.Action.TheVariants.{Shift, Accept, Redu
 use Rattle.grammar.proofs.MachineSteps.{runs_none, runs_shift, runs_accept, runs_full, notes, notes_snoc, notes_stuck, notes_full, notes_shifted, notes_accepted}
 use Rattle.tables.specs.Held.{Held, blank, holding}
 use Rattle.tables.specs.HeldReadings.{cell_of, goto_of, left_of, length_of}
+use Rattle.line.specs.TurnRefusals.{told}
+use Rattle.line.specs.declared.turn_refusal.TurnRefusal.{TurnRefusal}
+use Rattle.line.specs.declared.turn_refusal.TurnRefusal.TheVariants.{NoAction}
 use Rattle.line.specs.declared.line.Line.{Line as Arrays}
 use Rattle.line.specs.declared.machine.Stop.TheVariants.{Shifted, Accepted}
 use Rattle.line.specs.Reductions.{landed, uncovered, by_left, by_length, reduction}
@@ -151,8 +151,8 @@ module _ (w s r : ℕ) (σ : List ℕ) where
       }
 
   -- A reduction that is refused.
-  pub midway_refused : (h : Held) (l k m : Line) (e : Refusal) → RuleIn h r → k.states ≡ s ∷ σ → Some (Reduce r) ≡ cell_of h s w → Midway h w l k → reduction h k r ≡ refused (told e).number → Ran h w l (Err e) m
-  midway_refused blank l k m e i top cell mid x = tt
+  pub midway_refused : (h : Held) (l k m : Line) (e : TurnRefusal) → RuleIn h r → k.states ≡ s ∷ σ → Some (Reduce r) ≡ cell_of h s w → Midway h w l k → reduction h k r ≡ refused (told e).number → Ran h w l (Err e) m
+  midway_refused blank l k m e i top cell mid x = cc
   midway_refused (holding G n A cells) l k m e i top cell mid x =
       let on : Halted (told e).number (ends G A cells w k) = subst (λ T. Goes r (ends G A cells w) T (ends G A cells w k)) x (machine_reduces G n A cells w r k s σ i top (sym cell)) in
       subst (Halted (told e).number) (sym mid.same) (halted_noted (told e).number mid.steps (ends G A cells w k) on)
@@ -160,21 +160,21 @@ module _ (w s r : ℕ) (σ : List ℕ) where
 module _ (w s : ℕ) (σ : List ℕ) where
   -- No action.
   pub midway_none : (h : Held) (l k m : Line) → k.states ≡ s ∷ σ → None ≡ cell_of h s w → Midway h w l k → Ran h w l (Err NoAction) m
-  midway_none blank l k m top cell mid = tt
+  midway_none blank l k m top cell mid = refl
   midway_none (holding G n A cells) l k m top cell mid =
       let on : ends G A cells w k ≡ stuck = ap (runs G A cells (768 - length k.rules) w) top ∙ runs_none G A cells w s σ (768 - length k.rules) (sym cell) in
       subst (Halted 14) (sym (mid.same ∙ ap (notes mid.steps) on ∙ notes_stuck mid.steps)) refl
 
   -- A shift.
   pub midway_shift : (h : Held) (l k : Line) (t : ℕ) → k.states ≡ s ∷ σ → Some (Shift t) ≡ cell_of h s w → Midway h w l k → Ran h w l (Ok (Shifted t)) k
-  midway_shift blank l k t top cell mid = tt
+  midway_shift blank l k t top cell mid = cc
   midway_shift (holding G n A cells) l k t top cell mid =
       let on : ends G A cells w k ≡ shifted (t ∷ k.states) [] = ap (runs G A cells (768 - length k.rules) w) top ∙ runs_shift G A cells w s σ (768 - length k.rules) t (sym cell) ∙ ap (λ τ. shifted (t ∷ τ) []) (sym top) in
       (mid.steps, mid.noting, mid.same ∙ ap (notes mid.steps) on ∙ notes_shifted mid.steps (t ∷ k.states))
 
   -- An accept.
   pub midway_accept : (h : Held) (l k : Line) → k.states ≡ s ∷ σ → Some Accept ≡ cell_of h s w → Midway h w l k → Ran h w l (Ok Accepted) k
-  midway_accept blank l k top cell mid = tt
+  midway_accept blank l k top cell mid = cc
   midway_accept (holding G n A cells) l k top cell mid =
       let on : ends G A cells w k ≡ accepted k.states [] = ap (runs G A cells (768 - length k.rules) w) top ∙ runs_accept G A cells w s σ (768 - length k.rules) (sym cell) ∙ ap (λ τ. accepted τ []) (sym top) in
       (mid.steps, mid.noting, mid.same ∙ ap (notes mid.steps) on ∙ notes_accepted mid.steps k.states)

@@ -1,4 +1,6 @@
+pub mod TurnRefusals
 pub mod Answers
+pub mod Steps
 pub mod PlanLines
 pub mod LineTurns
 pub mod Stacks

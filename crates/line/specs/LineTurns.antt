@@ -1,43 +1,43 @@
 -- The turns of one line.
-use Rattle.std.specs.Prelude.{◌≡◌, ℕ, ◌-◌, Bool, true, false, cond, length, Ok, Err, Result}
-use Rattle.grammar.specs.Line.{Turned, after, take_word, judge_line}
-use Rattle.grammar.specs.declared.refusal.Refusal.{Refusal}
-use Rattle.grammar.specs.declared.refusal.Refusal.TheVariants.{Blank, Status}
+use Rattle.std.specs.Prelude.{ℕ, ◌-◌, Bool, true, false, cond, length, nat_le}
+use Rattle.grammar.specs.Line.{Line, Turned, after, refused as halts, take_word, judge_line}
 use Rattle.tables.specs.Held.{Held, blank, holding}
-use Rattle.line.specs.Answers.{Answer, given, refused}
-use Rattle.line.specs.PlanLines.{PlanLine}
+use Rattle.line.specs.Steps.{Step, done, refused}
+use Rattle.line.specs.PlanLines.{PlanLine, fresh_plan_line}
 
--- What a turn answers, and the line that it leaves.
-pub record LineTurn (B : Type 0) : Type 0 where
-  pub answer : Answer B
-  pub next : PlanLine
+-- A turn that asks for a judged line, or for an open one: 10 where the line is not so.
+abbrev pub asking : {B : Type 0} → Bool → PlanLine → Step PlanLine B → Step PlanLine B
+asking true l turn = cond l.judged turn (refused 10)
+asking false l turn = cond l.judged (refused 10) turn
 
--- A turn is allowed where the tables are not blank and the line is open.
-abbrev pub Allowed : Held → Bool → Result (Unit {0}) Refusal → Type 0
-Allowed blank judged r = r ≡ Err Blank
-Allowed (holding G n A cells) true r = r ≡ Err Status
-Allowed (holding G n A cells) false r = r ≡ Ok tt
+-- A word at what tables hold. Blank ones have no word.
+abbrev pub taken_by : Held → Line → ℕ → Turned
+taken_by blank l w = cond (nat_le 256 (length l.words)) (halts 11) (halts 12)
+taken_by (holding G n A cells) l w = take_word G A cells l w
 
--- A refused turn leaves the line as it was.
-abbrev pub refusing : {B : Type 0} → PlanLine → ℕ → LineTurn B
-refusing l c = record { answer = refused c; next = l }
+-- The end mark at what tables hold. Blank ones have no action.
+abbrev pub judged_by : Held → Line → Turned
+judged_by blank l = halts 14
+judged_by (holding G n A cells) l = judge_line G A cells l
 
--- What the machine leaves at a word; the answer is how many rules it noted.
-abbrev pub word_turned : PlanLine → Turned → LineTurn ℕ
-word_turned l (after k) = record { answer = given (length k.rules - length l.line.rules); next = record { judged = false; line = k } }
-word_turned l (Turned.refused c) = refusing l c
+-- What the machine leaves at a word; given is how many rules it noted.
+abbrev pub word_turned : Line → Turned → Step PlanLine ℕ
+word_turned l (after k) = done (length k.rules - length l.rules) (record { judged = false; line = k })
+word_turned l (halts c) = refused c
 
--- A word brought to a line: 8 where the tables are blank, 10 where the line is judged, and then as the machine takes it.
-abbrev pub word_on : Held → PlanLine → ℕ → LineTurn ℕ
-word_on blank l w = refusing l 8
-word_on (holding G n A cells) l w = cond l.judged (refusing l 10) (word_turned l (take_word G A cells l.line w))
+-- What the machine leaves at the end mark; given is how many words and rules the judged line has.
+abbrev pub judge_turned : Turned → Step PlanLine (ℕ × ℕ)
+judge_turned (after k) = done (length k.words, length k.rules) (record { judged = true; line = k })
+judge_turned (halts c) = refused c
 
--- What the machine leaves at the end mark; the answer is how many words and rules the judged line has.
-abbrev pub judge_turned : PlanLine → Turned → LineTurn (ℕ × ℕ)
-judge_turned l (after k) = record { answer = given (length k.words, length k.rules); next = record { judged = true; line = k } }
-judge_turned l (Turned.refused c) = refusing l c
+-- A word brought to an open line.
+abbrev pub word_on : Held → PlanLine → ℕ → Step PlanLine ℕ
+word_on h l w = asking false l (word_turned l.line (taken_by h l.line w))
 
--- A line judged: 8 where the tables are blank, 10 where the line is judged already, and then as the machine decides.
-abbrev pub judge_on : Held → PlanLine → LineTurn (ℕ × ℕ)
-judge_on blank l = refusing l 8
-judge_on (holding G n A cells) l = cond l.judged (refusing l 10) (judge_turned l (judge_line G A cells l.line))
+-- An open line judged.
+abbrev pub judge_on : Held → PlanLine → Step PlanLine (ℕ × ℕ)
+judge_on h l = asking false l (judge_turned (judged_by h l.line))
+
+-- A judged line, or an open one, made fresh.
+abbrev pub freshen_on : Bool → PlanLine → Step PlanLine (Unit {0})
+freshen_on judged l = asking judged l (done tt fresh_plan_line)

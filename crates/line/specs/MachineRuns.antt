@@ -3,15 +3,16 @@ use Rattle.std.specs.Prelude.{◌≡◌, ℕ, ◌-◌, ◌≤◌, List, ◌∷�
 use Rattle.grammar.specs.Grammar.{Grammar}
 use Rattle.grammar.specs.States.{Automaton}
 use Rattle.grammar.specs.Line.{Line, Ended, stuck, full, shifted, accepted, runs, after_word, after_judging}
-use Rattle.grammar.specs.Refusals.{told}
 use Rattle.grammar.specs.declared.action.Action.{Action}
-use Rattle.grammar.specs.declared.refusal.Refusal.{Refusal}
+use Rattle.line.specs.declared.turn_refusal.TurnRefusal.{TurnRefusal}
+use Rattle.line.specs.TurnRefusals.{told}
 use Rattle.tables.specs.Held.{Held, blank, holding}
 use Rattle.line.specs.declared.line.Line.{Line as Arrays}
 use Rattle.line.specs.declared.machine.Stop.{Stop}
 use Rattle.line.specs.declared.machine.Stop.TheVariants.{Shifted, Accepted}
 use Rattle.line.specs.PlanLines.{PlanLine}
-use Rattle.line.specs.LineTurns.{LineTurn, word_turned, judge_turned}
+use Rattle.line.specs.Steps.{Step, refused}
+use Rattle.line.specs.LineTurns.{word_turned, judge_turned}
 
 -- The machine ends so, at a word or the end mark, where it stands on a line.
 abbrev pub ends : Grammar → Automaton → (ℕ → ℕ → Option Action) → ℕ → Line → Ended
@@ -36,22 +37,23 @@ pub record Kept (l k : Arrays) : Type 0 where
   pub steps : l.steps ≤ k.steps
 
 -- An end at which the machine stands on the line k: it would shift to a state, or it accepts, or it halts.
-abbrev pub EndsAt : Line → Result Stop Refusal → Line → Ended → Type 0
+abbrev pub EndsAt : Line → Result Stop TurnRefusal → Line → Ended → Type 0
 EndsAt l (Ok (Shifted t)) k o = (ps : List ℕ) × Noted l k ps × (o ≡ shifted (t ∷ k.states) ps)
 EndsAt l (Ok Accepted) k o = (ps : List ℕ) × Noted l k ps × (o ≡ accepted k.states ps)
 EndsAt l (Err e) k o = Halted (told e).number o
 
--- The machine, run on the line l, ends on the line k.
-abbrev pub Ran : Held → ℕ → Line → Result Stop Refusal → Line → Type 0
-Ran blank w l r k = Unit {0}
+-- The machine, run on the line l, ends on the line k. By blank tables it meets no action.
+abbrev pub Ran : Held → ℕ → Line → Result Stop TurnRefusal → Line → Type 0
+Ran blank w l (Ok x) k = ⊥
+Ran blank w l (Err e) k = (told e).number ≡ 14
 Ran (holding G n A cells) w l r k = EndsAt l r k (ends G A cells w l)
 
 -- The machine takes a word, or refuses it.
-abbrev pub Took : Held → ℕ → PlanLine → LineTurn ℕ → Type 0
+abbrev pub Took : Held → ℕ → Line → Step PlanLine ℕ → Type 0
 Took blank w l t = Unit {0}
-Took (holding G n A cells) w l t = word_turned l (after_word l.line w (ends G A cells w l.line)) ≡ t
+Took (holding G n A cells) w l t = word_turned l (after_word l w (ends G A cells w l)) ≡ t
 
 -- The machine accepts at the end mark, or refuses the line.
-abbrev pub Decided : Held → PlanLine → LineTurn (ℕ × ℕ) → Type 0
-Decided blank l t = Unit {0}
-Decided (holding G n A cells) l t = judge_turned l (after_judging l.line (ends G A cells 0 l.line)) ≡ t
+abbrev pub Decided : Held → Line → Step PlanLine (ℕ × ℕ) → Type 0
+Decided blank l t = refused 14 ≡ t
+Decided (holding G n A cells) l t = judge_turned (after_judging l (ends G A cells 0 l)) ≡ t

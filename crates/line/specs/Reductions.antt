@@ -1,10 +1,10 @@
 -- One reduction of a line by what tables hold.
 use Rattle.std.specs.Prelude.{ℕ, cond, List, [], ◌∷◌, ◌++◌, length, drop, Ok, Err, Result, nat_le, Option, Some, None}
 use Rattle.grammar.specs.Line.{Line, Turned, after, refused}
-use Rattle.grammar.specs.Refusals.{told}
-use Rattle.grammar.specs.declared.refusal.Refusal.{Refusal}
 use Rattle.tables.specs.Held.{Held}
 use Rattle.tables.specs.HeldReadings.{goto_of, left_of, length_of}
+use Rattle.line.specs.TurnRefusals.{told}
+use Rattle.line.specs.declared.turn_refusal.TurnRefusal.{TurnRefusal}
 
 -- The state that the left side leads to is put on, and the rule is noted.
 abbrev pub landed : Line → ℕ → List ℕ → Option ℕ → Turned
@@ -31,6 +31,6 @@ abbrev pub reduction : Held → Line → ℕ → Turned
 reduction h l r = cond (nat_le 768 (length l.rules)) (refused 13) (by_length h l r (length_of h r))
 
 -- What a call says of a turn that leaves this line.
-abbrev pub turned_to : {B : Type 0} → Result B Refusal → Line → Turned
+abbrev pub turned_to : {B : Type 0} → Result B TurnRefusal → Line → Turned
 turned_to (Ok x) l = after l
 turned_to (Err e) l = refused (told e).number

@@ -7,7 +7,9 @@ mod readings;
 mod stack;
 mod status;
 mod trial;
+mod turn_refusal;
 mod turns;
 
 pub use line::Line;
 pub use status::Status;
+pub use turn_refusal::TurnRefusal;

@@ -6,7 +6,8 @@ ghost use Rattle.tables.specs.Building.{held};
 ghost use Rattle.std.specs.Prelude.{◌≡◌};
 
 use super::line::Line;
-use grammar::{Action, Refusal};
+use super::turn_refusal::TurnRefusal;
+use grammar::Action;
 use tables::Tables;
 
 // Not an option, since to accept is an answer of its own and not the lack of a state.
@@ -20,25 +21,25 @@ pub(crate) enum Stop {
 impl Line {
     // Reduces by a rule: 13 where 768 rules are noted, 14 where states or a goto are lacking.
     #[tactic(auto, using(crate::proofs::HeldStates::goto_below))]
-    pub(crate) fn reduce(&mut self, tables: &Tables, rule: u8) -> Result<(), Refusal>
+    pub(crate) fn reduce(&mut self, tables: &Tables, rule: u8) -> Result<(), TurnRefusal>
         ensures reduced { reduction (held tables.now) (plan_line_of self.old).line rule ≡ turned_to result (plan_line_of self.new).line }
         ensures kept { Kept self.old self.new }
     {
         if self.steps == 768 {
-            return Err(Refusal::Reductions);
+            return Err(TurnRefusal::Reductions);
         }
-        let length = tables.length(usize::from(rule)).ok_or(Refusal::NoAction)?;
-        let left = tables.left(usize::from(rule)).ok_or(Refusal::NoAction)?;
-        let state = self.under(length).ok_or(Refusal::NoAction)?;
+        let length = tables.length(usize::from(rule)).ok_or(TurnRefusal::NoAction)?;
+        let left = tables.left(usize::from(rule)).ok_or(TurnRefusal::NoAction)?;
+        let state = self.under(length).ok_or(TurnRefusal::NoAction)?;
         let to = tables
             .goto(usize::from(state), usize::from(left))
-            .ok_or(Refusal::NoAction)?;
+            .ok_or(TurnRefusal::NoAction)?;
         self.replace(length, to as u8, rule);
         Ok(())
     }
 
     // Runs the machine at a word, or at the end mark 0, up to a shift or an accept.
-    pub(crate) fn run(&mut self, tables: &Tables, word: u8) -> Result<Stop, Refusal>
+    pub(crate) fn run(&mut self, tables: &Tables, word: u8) -> Result<Stop, TurnRefusal>
         ensures ran { Ran (held tables.now) word (plan_line_of self.old).line result (plan_line_of self.new).line }
         ensures kept { Kept self.old self.new }
     {
@@ -48,7 +49,7 @@ impl Line {
                 Some(Action::Shift(to)) => return Ok(Stop::Shifted(to)),
                 Some(Action::Accept) => return Ok(Stop::Accepted),
                 Some(Action::Reduce(rule)) => self.reduce(tables, rule)?,
-                None => return Err(Refusal::NoAction),
+                None => return Err(TurnRefusal::NoAction),
             }
         }
     }
