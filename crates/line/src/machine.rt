@@ -28,7 +28,9 @@ impl Line {
         if self.steps == 768 {
             return Err(TurnRefusal::Reductions);
         }
-        let length = tables.length(usize::from(rule)).ok_or(TurnRefusal::NoAction)?;
+        let length = tables
+            .length(usize::from(rule))
+            .ok_or(TurnRefusal::NoAction)?;
         let left = tables.left(usize::from(rule)).ok_or(TurnRefusal::NoAction)?;
         let state = self.under(length).ok_or(TurnRefusal::NoAction)?;
         let to = tables

@@ -1,7 +1,6 @@
 -- Slips booked.
-use Rattle.std.proofs.Common.{◌≡◌, ℕ, ◌+◌, ◌-◌, ◌^◌, ◌<◌, ◌≤◌, min, true, not, ltb, List, [], ◌∷◌, ◌++◌, reverse, length, sym, refl, ap, ◌∙◌, subst, subst₂, append_assoc, append-nil, add-zero, arith, length-append, ltb-false, ltb-true, Option}
+use Rattle.std.proofs.Common.{◌≡◌, ℕ, ◌+◌, ◌-◌, ◌^◌, ◌<◌, ◌≤◌, min, true, set, ltb, List, [], ◌∷◌, ◌++◌, reverse, length, sym, refl, ap, ◌∙◌, subst, subst₂, append_assoc, append-nil, add-zero, arith, length-append, ltb-false, ltb-true, Option}
 use mathlib.Core.List.{reverse-reverse}
-use borrow.Author.Tests.{not-true, not-false}
 use Rattle.std.proofs.lemmas.Bool.{cond_both}
 use Rattle.grammar.specs.Grammar.{Grammar, Valid}
 use Rattle.grammar.specs.States.{Automaton, Laws}
@@ -20,9 +19,13 @@ use Rattle.plan.specs.Turns.{SlipModel, Turn, book}
 use Rattle.plan.specs.Account.{account, line_of}
 use Rattle.plan.specs.Entries.{entry, EntryOf}
 use Rattle.plan.specs.RightAnswers.{Ready, Unready, no_designer, other_status, bookable, BookCause, unready, no_room, RightBook}
-use Rattle.plan.specs.Model.{Model, BookStepped, plan_line, entry_of, booking, not_booking, book_turn}
-use Rattle.plan.specs.Shows.{account_line, Stands, Shows, Continues}
-use Rattle.plan.specs.Theorems.{TablesOf}
+use Rattle.tables.specs.Held.{holding}
+use Rattle.line.specs.Steps.{Step, done, refused as not_done}
+use Rattle.line.specs.PlanLines.{fresh_plan_line}
+use Rattle.plan.specs.Model.{Model, PlanLine, plan_line}
+use Rattle.plan.specs.Steps.{Stepped, BookStepped, placed, entry_on, counted, not_booking, book_step}
+use Rattle.plan.specs.Shows.{account_line, Stands, Shows}
+use Rattle.plan.proofs.Continuing.{TablesOf, Continues}
 use Rattle.plan.proofs.Unreadiness.{not_ready, high_designer, low_designer}
 use Rattle.plan.proofs.EntryLists.{same_entry, entries_more}
 use Rattle.plan.proofs.ShownTurns.{line_shown, shown_same, shown_booked}
@@ -39,6 +42,9 @@ judged_entry {G} {A} v L cells exact d l (k, o, e) =
     }
 
 module _ (G : Grammar) (n : ℕ) (A : Automaton) (cells : ℕ → ℕ → Option Action) (T : TablesOf G n A cells) {turns : List Turn} {b₀ : List ℕ} {n₀ : ℕ} {m : Model} {list : List ℕ} {free : ℕ} (s : Shows G A cells turns b₀ n₀ m list free) (p : SlipModel) where
+  abbrev entry_of : Model → ℕ → List ℕ
+  entry_of m d = entry_on d (plan_line m d)
+
   abbrev Booked : BookStepped → Type 0
   Booked x = (list' : List ℕ) (free' : ℕ) → list' ≡ list ++ x.written → free ≡ free' + length x.written → Shows G A cells (turns ++ book p x.answer ∷ []) b₀ n₀ x.next list' free'
 
@@ -76,7 +82,7 @@ module _ (G : Grammar) (n : ℕ) (A : Automaton) (cells : ℕ → ℕ → Option
           cause = λ i x. subst (λ i. BookCause G n₀ (account turns) p.designer w.list i) (cc) (no_room ready (entry_of m p.designer, the_entry, over));
         })
 
-    booked : length (entry_of m p.designer) ≤ free → Booked (booking m p.designer)
+    booked : length (entry_of m p.designer) ≤ free → Booked (counted (given (entry_of m p.designer)) (record { lines = set m.lines p.designer fresh_plan_line; count = m.count }))
     booked h list' free' e f =
         let d = p.designer in
         let w = s.law.written in
@@ -101,14 +107,17 @@ module _ (G : Grammar) (n : ℕ) (A : Automaton) (cells : ℕ → ℕ → Option
           free = rw (length-append w.list numbers) (omega (arith, w.free, f));
         })
 
-  pub book_shown : Booked (book_turn m free p)
+  pub book_shown : Booked (book_step (holding G n A cells) m free p.designer)
   book_shown =
       let d = p.designer in
       let l = plan_line m d in
-      cond_both (ltb 7 d) _ _ Booked (λ e. book_unready 9 (no_designer (high_designer d e))) (λ e.
-      cond_both (not l.judged) _ _ Booked (λ f. book_unready 10 (other_status (low_designer d e) (not-true l.judged f))) (λ f.
-      cond_both (ltb free (length (entry_of m d))) _ _ Booked (λ g. no_book (low_designer d e) (not-false l.judged f) (ltb-true free (length (entry_of m d)) g)) (λ g.
-      booked (low_designer d e) (not-false l.judged f) (ltb-false free (length (entry_of m d)) g))))
+      let Done : Stepped (List ℕ) → Type 0 = λ x. Booked (counted x.answer x.next) in
+      let Turned : Step PlanLine (List ℕ) → Type 0 = λ t. Done (placed m d t) in
+      cond_both (ltb 7 d) _ _ Done (λ e. book_unready 9 (no_designer (high_designer d e))) (λ e.
+      cond_both l.judged _ (not_done 10) Turned (λ f.
+      cond_both (ltb free (length (entry_of m d))) (not_done 15) (done (entry_of m d) fresh_plan_line) Turned (λ g. no_book (low_designer d e) f (ltb-true free (length (entry_of m d)) g)) (λ g.
+      booked (low_designer d e) f (ltb-false free (length (entry_of m d)) g))) (λ f.
+      book_unready 10 (other_status (low_designer d e) f)))
 
-pub book_continues : (G : Grammar) (n : ℕ) (A : Automaton) (cells : ℕ → ℕ → Option Action) → TablesOf G n A cells → (m : Model) (list : List ℕ) (free : ℕ) (p : SlipModel) (x : Answer ℕ) (m' : Model) (numbers list' : List ℕ) (free' : ℕ) → book_turn m free p ≡ record { answer = x; next = m'; written = numbers } → list' ≡ list ++ numbers → free ≡ free' + length numbers → Continues G A cells m list free (book p x) m' list' free'
+pub book_continues : (G : Grammar) (n : ℕ) (A : Automaton) (cells : ℕ → ℕ → Option Action) → TablesOf G n A cells → (m : Model) (list : List ℕ) (free : ℕ) (p : SlipModel) (x : Answer ℕ) (m' : Model) (numbers list' : List ℕ) (free' : ℕ) → book_step (holding G n A cells) m free p.designer ≡ record { answer = x; next = m'; written = numbers } → list' ≡ list ++ numbers → free ≡ free' + length numbers → Continues G A cells m list free (book p x) m' list' free'
 book_continues G n A cells T m list free p x m' numbers list' free' e f g turns b₀ n₀ s = subst (Booked G n A cells T s p) e (book_shown G n A cells T s p) list' free' f g

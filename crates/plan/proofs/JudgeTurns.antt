@@ -20,9 +20,13 @@ use Rattle.line.specs.Answers.{Answer, given, refused}
 use Rattle.plan.specs.Turns.{SlipModel, Turn, judge}
 use Rattle.plan.specs.Account.{AccountLine, account, with_line, line_of}
 use Rattle.plan.specs.RightAnswers.{Ready, Unready, no_designer, other_status, JudgeCause, unready, too_many, no_sentence, RightJudge, RightTurn}
-use Rattle.plan.specs.Model.{Model, Stepped, plan_line, refusing, judge_stepped, judge_turn}
-use Rattle.plan.specs.Shows.{account_line, Shows, Stands, Continues}
-use Rattle.plan.specs.Theorems.{TablesOf}
+use Rattle.tables.specs.Held.{holding}
+use Rattle.line.specs.Steps.{Step, refused as not_done}
+use Rattle.line.specs.LineTurns.{judge_turned}
+use Rattle.plan.specs.Model.{Model, PlanLine, plan_line}
+use Rattle.plan.specs.Steps.{Stepped, placed, refusing, slipped, judge_step}
+use Rattle.plan.specs.Shows.{account_line, Shows, Stands}
+use Rattle.plan.proofs.Continuing.{TablesOf, Continues}
 use Rattle.plan.proofs.Unreadiness.{not_ready, high_designer, low_designer}
 use Rattle.plan.proofs.ShownTurns.{line_shown, shown_same, shown_line}
 
@@ -71,7 +75,7 @@ module _ (G : Grammar) (n : ℕ) (A : Automaton) (cells : ℕ → ℕ → Option
   right : (x : Answer SlipModel) → RightJudge G A d (account_line (plan_line m d)) x → RightTurn G A n₀ (account turns) (judge d x)
   right x r = subst (λ l. RightJudge G A d l x) (sym (line_shown G A cells s d)) r
 
-  judged_line : Open G A cells (plan_line m d).line → Ready false d (account_line (plan_line m d)) → (t : Turned) → judge_line G A cells (plan_line m d).line ≡ t → Judged (judge_stepped m d t)
+  judged_line : Open G A cells (plan_line m d).line → Ready false d (account_line (plan_line m d)) → (t : Turned) → judge_line G A cells (plan_line m d).line ≡ t → Judged (placed m d (slipped d (judge_turned t)))
   judged_line o y (Turned.refused c) e = shown_same G A cells s (judge d (refused c)) (right _ (judge_refused T.given.valid (lawful_states G n A T.given.numbered) cells T.exact d (plan_line m d).line o (plan_line m d).judged y c e)) refl
   judged_line o y (after k) e =
       let l = (plan_line m d).line in
@@ -79,13 +83,13 @@ module _ (G : Grammar) (n : ℕ) (A : Automaton) (cells : ℕ → ℕ → Option
       shown_line G A cells s (judge d _) (right _ (judge_good T.given.valid (lawful_states G n A T.given.numbered) cells T.exact d l o (plan_line m d).judged y k e)) d (record { judged = true; line = k }) (l, o, e)
       (ap (λ ws. with_line (account turns) d (record { judged = true; words = ws })) words)
 
-  pub judge_shown : Judged (judge_turn G A cells m d)
+  pub judge_shown : Judged (judge_step (holding G n A cells) m d)
   judge_shown =
       let p = plan_line m d in
       let no : (c : ℕ) → Unready false d (account_line p) c → Judged (refusing m c) = λ c u. shown_same G A cells s (judge d (refused c)) (right _ (judge_unready d u)) refl in
       cond_both (ltb 7 d) _ _ Judged (λ e. no 9 (no_designer (high_designer d e))) (λ e.
-      cond_both p.judged _ _ Judged (λ f. no 10 (other_status (low_designer d e) f)) (λ f.
+      cond_both p.judged (not_done 10) _ (λ (t : Step PlanLine (ℕ × ℕ)). Judged (placed m d (slipped d t))) (λ f. no 10 (other_status (low_designer d e) f)) (λ f.
       judged_line (subst (λ j. Stands G A cells j p.line) f (s.stands d)) (record { designer_low = low_designer d e; status = f }) (judge_line G A cells p.line) refl))
 
-pub judge_continues : (G : Grammar) (n : ℕ) (A : Automaton) (cells : ℕ → ℕ → Option Action) → TablesOf G n A cells → (m : Model) (list : List ℕ) (free : ℕ) (d : ℕ) (x : Answer SlipModel) (m' : Model) → judge_turn G A cells m d ≡ record { answer = x; next = m' } → Continues G A cells m list free (judge d x) m' list free
+pub judge_continues : (G : Grammar) (n : ℕ) (A : Automaton) (cells : ℕ → ℕ → Option Action) → TablesOf G n A cells → (m : Model) (list : List ℕ) (free : ℕ) (d : ℕ) (x : Answer SlipModel) (m' : Model) → judge_step (holding G n A cells) m d ≡ record { answer = x; next = m' } → Continues G A cells m list free (judge d x) m' list free
 judge_continues G n A cells T m list free d x m' e turns b₀ n₀ s = subst (Judged G n A cells T s d) e (judge_shown G n A cells T s d)

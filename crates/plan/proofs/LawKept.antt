@@ -1,5 +1,5 @@
 -- Each call keeps the law, by its step.
-use Rattle.std.proofs.Common.{◌≡◌, ℕ, ◌+◌, List, [], ◌∷◌, ◌++◌, length, sym, refl, subst, append_assoc, append-nil, Option}
+use Rattle.std.proofs.Common.{◌≡◌, ℕ, ◌+◌, List, [], ◌∷◌, ◌++◌, length, sym, refl, subst, subst₂, append_assoc, append-nil, add-zero, Option, Result, Ok, Err}
 use mathlib.Core.Logic.{∥∥₁_map, ∥∥₁_map₂}
 use Rattle.grammar.specs.Grammar.{Grammar}
 use Rattle.grammar.specs.States.{Automaton}
@@ -8,15 +8,19 @@ use Rattle.tables.specs.Held.{Held, blank, holding}
 use Rattle.tables.specs.declared.tables.Tables.{Tables}
 use Rattle.tables.specs.Building.{held}
 use Rattle.tables.proofs.HeldTables.{held_exact}
-use Rattle.line.specs.Answers.{Answer}
+use Rattle.line.specs.Answers.{Answer, given, refused}
+use Rattle.line.specs.TurnRefusals.{told}
+use Rattle.line.specs.declared.turn_refusal.TurnRefusal.{TurnRefusal}
 use Rattle.plan.specs.Turns.{SlipModel, Turn, word, judge, book, withdraw, clear}
 use Rattle.plan.specs.Law.{Promises}
-use Rattle.plan.specs.Model.{Model, opened_model}
-use Rattle.plan.specs.Plans.{PlanValue, SameBook}
-use Rattle.plan.specs.Shows.{Shows, Continues}
-use Rattle.plan.specs.Theorems.{TablesOf}
-use Rattle.plan.specs.Calls.{word_call, judge_call, book_call, withdraw_call, clear_call}
+use Rattle.plan.specs.Model.{Model, opened_model, plan_line}
+use Rattle.plan.specs.Plans.{PlanValue, SameBook, book_made}
+use Rattle.plan.specs.Slips.{handed}
+use Rattle.plan.specs.Bookings.{LineBooked}
+use Rattle.plan.specs.Shows.{Shows}
+use Rattle.plan.specs.Steps.{entry_on, word_step, judge_step, book_step, withdraw_step, clear_step}
 use Rattle.plan.specs.LawKept.{KeepsLaw, BeginsLaw, LawKept}
+use Rattle.plan.proofs.Continuing.{TablesOf, Continues}
 use Rattle.plan.proofs.Promised.{promises}
 use Rattle.plan.proofs.ShownTurns.{opening}
 use Rattle.plan.proofs.WordTurns.{word_continues}
@@ -43,28 +47,28 @@ pub opened_kept : (h : Held) (list : List ℕ) (free : ℕ) → BeginsLaw h open
 opened_kept blank list free = tt
 opened_kept (holding G n A cells) list free = ∣ shown_kept (opening G A cells list free) ∣₁
 
-clear_kept : (h : Held) (m : Model) (list : List ℕ) (free d : ℕ) (x : Answer (Unit {0})) (m' : Model) → clear_call h m d ≡ record { answer = x; next = m' } → KeepsLaw h m list free (clear d x ∷ []) m' list free
+clear_kept : (h : Held) (m : Model) (list : List ℕ) (free d : ℕ) (x : Answer (Unit {0})) (m' : Model) → clear_step h m d ≡ record { answer = x; next = m' } → KeepsLaw h m list free (clear d x ∷ []) m' list free
 clear_kept h m list free d x m' e =
-    kept_by m list free m' list free (clear d x) h (λ G n A cells i. ∣ clear_continues G A cells m list free d x m' (subst (λ k. clear_call k m d ≡ record { answer = x; next = m' }) i e) ∣₁)
+    kept_by m list free m' list free (clear d x) h (λ G n A cells i. ∣ clear_continues G n A cells m list free d x m' (subst (λ k. clear_step k m d ≡ record { answer = x; next = m' }) i e) ∣₁)
 
-withdraw_kept : (h : Held) (m : Model) (list : List ℕ) (free : ℕ) (s : SlipModel) (x : Answer (Unit {0})) (m' : Model) → withdraw_call h m s ≡ record { answer = x; next = m' } → KeepsLaw h m list free (withdraw s x ∷ []) m' list free
+withdraw_kept : (h : Held) (m : Model) (list : List ℕ) (free : ℕ) (s : SlipModel) (x : Answer (Unit {0})) (m' : Model) → withdraw_step h m s.designer ≡ record { answer = x; next = m' } → KeepsLaw h m list free (withdraw s x ∷ []) m' list free
 withdraw_kept h m list free s x m' e =
-    kept_by m list free m' list free (withdraw s x) h (λ G n A cells i. ∣ withdraw_continues G A cells m list free s x m' (subst (λ k. withdraw_call k m s ≡ record { answer = x; next = m' }) i e) ∣₁)
+    kept_by m list free m' list free (withdraw s x) h (λ G n A cells i. ∣ withdraw_continues G n A cells m list free s x m' (subst (λ k. withdraw_step k m s.designer ≡ record { answer = x; next = m' }) i e) ∣₁)
 
-word_kept : (t : Tables) (m : Model) (list : List ℕ) (free d w : ℕ) (x : Answer ℕ) (m' : Model) → word_call (held t) m d w ≡ record { answer = x; next = m' } → KeepsLaw (held t) m list free (word d w x ∷ []) m' list free
+word_kept : (t : Tables) (m : Model) (list : List ℕ) (free d w : ℕ) (x : Answer ℕ) (m' : Model) → word_step (held t) m d w ≡ record { answer = x; next = m' } → KeepsLaw (held t) m list free (word d w x ∷ []) m' list free
 word_kept t m list free d w x m' e =
     kept_by m list free m' list free (word d w x) (held t) (λ G n A cells i.
-    ∥∥₁_map (tables_of t G n A cells i) (λ T. word_continues G n A cells T m list free d w x m' (subst (λ k. word_call k m d w ≡ record { answer = x; next = m' }) i e)))
+    ∥∥₁_map (tables_of t G n A cells i) (λ T. word_continues G n A cells T m list free d w x m' (subst (λ k. word_step k m d w ≡ record { answer = x; next = m' }) i e)))
 
-judge_kept : (t : Tables) (m : Model) (list : List ℕ) (free d : ℕ) (x : Answer SlipModel) (m' : Model) → judge_call (held t) m d ≡ record { answer = x; next = m' } → KeepsLaw (held t) m list free (judge d x ∷ []) m' list free
+judge_kept : (t : Tables) (m : Model) (list : List ℕ) (free d : ℕ) (x : Answer SlipModel) (m' : Model) → judge_step (held t) m d ≡ record { answer = x; next = m' } → KeepsLaw (held t) m list free (judge d x ∷ []) m' list free
 judge_kept t m list free d x m' e =
     kept_by m list free m' list free (judge d x) (held t) (λ G n A cells i.
-    ∥∥₁_map (tables_of t G n A cells i) (λ T. judge_continues G n A cells T m list free d x m' (subst (λ k. judge_call k m d ≡ record { answer = x; next = m' }) i e)))
+    ∥∥₁_map (tables_of t G n A cells i) (λ T. judge_continues G n A cells T m list free d x m' (subst (λ k. judge_step k m d ≡ record { answer = x; next = m' }) i e)))
 
-pub book_kept : (t : Tables) (m : Model) (list : List ℕ) (free : ℕ) (s : SlipModel) (x : Answer ℕ) (m' : Model) (numbers list' : List ℕ) (free' : ℕ) → book_call (held t) m free s ≡ record { answer = x; next = m'; written = numbers } → list' ≡ list ++ numbers → free ≡ free' + length numbers → KeepsLaw (held t) m list free (book s x ∷ []) m' list' free'
+pub book_kept : (t : Tables) (m : Model) (list : List ℕ) (free : ℕ) (s : SlipModel) (x : Answer ℕ) (m' : Model) (numbers list' : List ℕ) (free' : ℕ) → book_step (held t) m free s.designer ≡ record { answer = x; next = m'; written = numbers } → list' ≡ list ++ numbers → free ≡ free' + length numbers → KeepsLaw (held t) m list free (book s x ∷ []) m' list' free'
 book_kept t m list free s x m' numbers list' free' e f g =
     kept_by m list free m' list' free' (book s x) (held t) (λ G n A cells i.
-    ∥∥₁_map (tables_of t G n A cells i) (λ T. book_continues G n A cells T m list free s x m' numbers list' free' (subst (λ k. book_call k m free s ≡ record { answer = x; next = m'; written = numbers }) i e) f g))
+    ∥∥₁_map (tables_of t G n A cells i) (λ T. book_continues G n A cells T m list free s x m' numbers list' free' (subst (λ k. book_step k m free s.designer ≡ record { answer = x; next = m'; written = numbers }) i e) f g))
 
 -- No turn keeps the law, and turns behind turns do.
 pub none_kept : (h : Held) (m : Model) (list : List ℕ) (free : ℕ) → KeepsLaw h m list free [] m list free
@@ -86,14 +90,25 @@ module _ {B : Type 0} (list : B → List ℕ) (free : B → ℕ) (p q : PlanValu
   same_book : (ts : List Turn) → KeepsLaw (held p.tables) p.model (list p.book) (free p.book) ts q.model (list p.book) (free p.book) → LawKept list free p ts q
   same_book ts k = subst (λ b. KeepsLaw (held p.tables) p.model (list p.book) (free p.book) ts q.model (list b) (free b)) (sym same.1) k
 
-  pub word_law : (d w : ℕ) (x : Answer ℕ) → word_call (held p.tables) p.model d w ≡ record { answer = x; next = q.model } → LawKept list free p (word d w x ∷ []) q
+  pub word_law : (d w : ℕ) (x : Answer ℕ) → word_step (held p.tables) p.model d w ≡ record { answer = x; next = q.model } → LawKept list free p (word d w x ∷ []) q
   word_law d w x e = same_book _ (word_kept p.tables p.model (list p.book) (free p.book) d w x q.model e)
 
-  pub judge_law : (d : ℕ) (x : Answer SlipModel) → judge_call (held p.tables) p.model d ≡ record { answer = x; next = q.model } → LawKept list free p (judge d x ∷ []) q
+  pub judge_law : (d : ℕ) (x : Answer SlipModel) → judge_step (held p.tables) p.model d ≡ record { answer = x; next = q.model } → LawKept list free p (judge d x ∷ []) q
   judge_law d x e = same_book _ (judge_kept p.tables p.model (list p.book) (free p.book) d x q.model e)
 
-  pub withdraw_law : (s : SlipModel) (x : Answer (Unit {0})) → withdraw_call (held p.tables) p.model s ≡ record { answer = x; next = q.model } → LawKept list free p (withdraw s x ∷ []) q
+  pub withdraw_law : (s : SlipModel) (x : Answer (Unit {0})) → withdraw_step (held p.tables) p.model s.designer ≡ record { answer = x; next = q.model } → LawKept list free p (withdraw s x ∷ []) q
   withdraw_law s x e = same_book _ (withdraw_kept (held p.tables) p.model (list p.book) (free p.book) s x q.model e)
 
-  pub clear_law : (d : ℕ) (x : Answer (Unit {0})) → clear_call (held p.tables) p.model d ≡ record { answer = x; next = q.model } → LawKept list free p (clear d x ∷ []) q
+  pub clear_law : (d : ℕ) (x : Answer (Unit {0})) → clear_step (held p.tables) p.model d ≡ record { answer = x; next = q.model } → LawKept list free p (clear d x ∷ []) q
   clear_law d x e = same_book _ (clear_kept (held p.tables) p.model (list p.book) (free p.book) d x q.model e)
+
+module _ {B : Type 0} (list : B → List ℕ) (free : B → ℕ) (grows : B → List ℕ → B → Type 0) (p q : PlanValue B) (s : SlipModel) where
+  -- Booking the line of a slip's designer keeps the law.
+  pub book_law : (r : Result ℕ TurnRefusal) → LineBooked list free grows p s.designer r q → LawKept list free p (book_made s (handed s r)) q
+  book_law (Ok n) x =
+      book_kept p.tables p.model (list p.book) (free p.book) s (given n) q.model (entry_on s.designer (plan_line p.model s.designer)) (list q.book) (free q.book) x.0 x.1.0 x.1.1
+  book_law (Err e) x =
+      let c : ℕ = (told e).number in
+      let P : Model → B → Type 0 = λ m b. KeepsLaw (held p.tables) p.model (list p.book) (free p.book) (book s (refused c) ∷ []) m (list b) (free b) in
+      subst₂ P (sym x.1) (sym x.2)
+      (book_kept p.tables p.model (list p.book) (free p.book) s (refused c) p.model [] (list p.book) (free p.book) x.0 (sym (append-nil (list p.book))) (sym (add-zero (free p.book))))

@@ -1,8 +1,6 @@
-pub mod LineCalls
-pub mod BookCalls
-pub mod SlipCalls
 pub mod TurnLists
 pub mod EntryLists
+pub mod Continuing
 pub mod ShownTurns
 pub mod Unreadiness
 pub mod FreshTurns
@@ -10,7 +8,6 @@ pub mod JudgeTurns
 pub mod WordTurns
 pub mod BookTurns
 pub mod Promised
-pub mod Histories
 pub mod LawKept
 pub mod WholeLines
 pub mod WholeCalls

@@ -7,7 +7,7 @@ use Rattle.grammar.specs.States.{Automaton}
 use Rattle.grammar.specs.Line.{fresh}
 use Rattle.grammar.specs.declared.action.Action.{Action}
 use Rattle.plan.specs.Turns.{Turn}
-use Rattle.plan.specs.Account.{BookedLine, Account, after_turn, account, no_turns, line_of, empty_line, with_line}
+use Rattle.plan.specs.Account.{BookedLine, Account, after_turn, account, line_of, empty_line, with_line}
 use Rattle.plan.specs.Entries.{no_entry}
 use Rattle.plan.specs.RightAnswers.{RightTurn}
 use Rattle.plan.specs.Law.{Written}
@@ -64,7 +64,7 @@ module _ (G : Grammar) (A : Automaton) (cells : ℕ → ℕ → Option Action) w
 
     shown_more : (t : Turn) → RightTurn G A n₀ (account turns) t → {m' : Model} {list' : List ℕ} {free' : ℕ} → length m'.lines ≡ 8 → ((d : ℕ) → StandsLine (plan_line m' d)) → Kept G (after_turn (account turns) t) b₀ n₀ m' list' free' → Shows G A cells (turns ++ t ∷ []) b₀ n₀ m' list' free'
     shown_more t r {m'} {list'} {free'} e f k =
-        let k' = subst (λ a. Kept G a b₀ n₀ m' list' free') (sym (account_more no_turns turns t)) k in
+        let k' = subst (λ a. Kept G a b₀ n₀ m' list' free') (sym (account_more (account []) turns t)) k in
         record {
           eight = e;
           lines = k'.lines;

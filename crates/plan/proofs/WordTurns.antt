@@ -1,5 +1,5 @@
 -- Words brought to lines.
-use Rattle.std.proofs.Common.{◌≡◌, ℕ, ◌+◌, ◌-◌, ◌<◌, Bool, true, false, cond, not, ltb, leb, List, [], ◌∷◌, ◌++◌, length, sym, refl, ap, ◌∙◌, subst, append-nil, arith, length-append, leb-false, leb-true, Option}
+use Rattle.std.proofs.Common.{◌≡◌, ℕ, ◌+◌, ◌-◌, ◌<◌, Bool, true, false, cond, not, ltb, leb, List, [], ◌∷◌, ◌++◌, length, sym, refl, ap, ap₂, ◌∙◌, subst, append-nil, arith, length-append, leb-false, leb-true, Option}
 use borrow.Author.Tests.{not-true, not-false, both_ways}
 use Rattle.std.proofs.lemmas.Bool.{cond_both, and_parts}
 use Rattle.grammar.specs.Grammar.{Grammar, Valid, IsTerminal}
@@ -21,9 +21,13 @@ use Rattle.line.specs.Answers.{Answer, given, refused}
 use Rattle.plan.specs.Turns.{Turn, word}
 use Rattle.plan.specs.Account.{AccountLine, account, with_line, line_of}
 use Rattle.plan.specs.RightAnswers.{Ready, Unready, no_designer, other_status, Reductions, WordCause, unready, line_full, no_terminal, too_many, no_sentence, RightWord, RightTurn}
-use Rattle.plan.specs.Model.{Model, Stepped, plan_line, refusing, word_stepped, word_turn}
-use Rattle.plan.specs.Shows.{account_line, Shows, Stands, Continues}
-use Rattle.plan.specs.Theorems.{TablesOf}
+use Rattle.tables.specs.Held.{holding}
+use Rattle.line.specs.Steps.{Step, refused as not_done}
+use Rattle.line.specs.LineTurns.{word_turned}
+use Rattle.plan.specs.Model.{Model, PlanLine, plan_line}
+use Rattle.plan.specs.Steps.{Stepped, placed, refusing, word_step}
+use Rattle.plan.specs.Shows.{account_line, Shows, Stands}
+use Rattle.plan.proofs.Continuing.{TablesOf, Continues}
 use Rattle.plan.proofs.Unreadiness.{not_ready, high_designer, low_designer}
 use Rattle.plan.proofs.ShownTurns.{line_shown, shown_same, shown_line}
 
@@ -100,21 +104,21 @@ module _ (G : Grammar) (n : ℕ) (A : Automaton) (cells : ℕ → ℕ → Option
   right : (x : Answer ℕ) → RightWord G A d w (account_line (plan_line m d)) x → RightTurn G A n₀ (account turns) (word d w x)
   right x r = subst (λ l. RightWord G A d w l x) (sym (line_shown G A cells s d)) r
 
-  word_line : Open G A cells (plan_line m d).line → Ready false d (account_line (plan_line m d)) → (t : Turned) → take_word G A cells (plan_line m d).line w ≡ t → Brought (word_stepped m d (plan_line m d).line t)
+  word_line : Open G A cells (plan_line m d).line → Ready false d (account_line (plan_line m d)) → (t : Turned) → take_word G A cells (plan_line m d).line w ≡ t → Brought (placed m d (word_turned (plan_line m d).line t))
   word_line o y (Turned.refused c) e = shown_same G A cells s (word d w (refused c)) (right _ (word_refused T.given.valid (lawful_states G n A T.given.numbered) T.productive cells T.exact d w (plan_line m d).line o (plan_line m d).judged y c e)) refl
   word_line o y (after k) e =
       let l = (plan_line m d).line in
       let words : k.words ≡ (line_of (account turns) d).words ++ w ∷ [] = words_after G A cells l k w e ∙ sym (ap (λ i. i.words ++ w ∷ []) (line_shown G A cells s d)) in
       shown_line G A cells s (word d w _) (right _ (word_taken T.given.valid (lawful_states G n A T.given.numbered) T.productive cells T.exact d w l o (plan_line m d).judged y k e)) d (record { judged = false; line = k }) (taken w o e)
-      (ap (λ ws. with_line (account turns) d (record { judged = false; words = ws })) words)
+      (ap₂ (λ j ws. with_line (account turns) d (record { judged = j; words = ws })) (sym (ap (λ i. i.judged) (line_shown G A cells s d) ∙ y.status)) words)
 
-  pub word_shown : Brought (word_turn G A cells m d w)
+  pub word_shown : Brought (word_step (holding G n A cells) m d w)
   word_shown =
       let p = plan_line m d in
       let no : (c : ℕ) → Unready false d (account_line p) c → Brought (refusing m c) = λ c u. shown_same G A cells s (word d w (refused c)) (right _ (word_unready d w u)) refl in
       cond_both (ltb 7 d) _ _ Brought (λ e. no 9 (no_designer (high_designer d e))) (λ e.
-      cond_both p.judged _ _ Brought (λ f. no 10 (other_status (low_designer d e) f)) (λ f.
+      cond_both p.judged (not_done 10) _ (λ (t : Step PlanLine ℕ). Brought (placed m d t)) (λ f. no 10 (other_status (low_designer d e) f)) (λ f.
       word_line (subst (λ i. Stands G A cells i p.line) f (s.stands d)) (record { designer_low = low_designer d e; status = f }) (take_word G A cells p.line w) refl))
 
-pub word_continues : (G : Grammar) (n : ℕ) (A : Automaton) (cells : ℕ → ℕ → Option Action) → TablesOf G n A cells → (m : Model) (list : List ℕ) (free : ℕ) (d w : ℕ) (x : Answer ℕ) (m' : Model) → word_turn G A cells m d w ≡ record { answer = x; next = m' } → Continues G A cells m list free (word d w x) m' list free
+pub word_continues : (G : Grammar) (n : ℕ) (A : Automaton) (cells : ℕ → ℕ → Option Action) → TablesOf G n A cells → (m : Model) (list : List ℕ) (free : ℕ) (d w : ℕ) (x : Answer ℕ) (m' : Model) → word_step (holding G n A cells) m d w ≡ record { answer = x; next = m' } → Continues G A cells m list free (word d w x) m' list free
 word_continues G n A cells T m list free d w x m' e turns b₀ n₀ s = subst (Brought G n A cells T s d w) e (word_shown G n A cells T s d w)

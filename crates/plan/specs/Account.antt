@@ -22,10 +22,6 @@ pub record Account : Type 0 where
 abbrev pub empty_line : AccountLine
 empty_line = record { judged = false; words = [] }
 
--- Before the first turn there are eight open lines without words, and none is booked.
-abbrev pub no_turns : Account
-no_turns = record { lines = replicate 8 empty_line; booked = [] }
-
 -- A designer's line.
 abbrev pub line_of : Account → ℕ → AccountLine
 line_of a d = slice_index_or a.lines d empty_line
@@ -34,13 +30,24 @@ line_of a d = slice_index_or a.lines d empty_line
 abbrev pub with_line : Account → ℕ → AccountLine → Account
 with_line a d l = record { lines = slice_set a.lines d l; booked = a.booked }
 
--- The account after one turn more: a word taken joins its line at the end; judging that gives out a slip makes its line judged; a booking done adds the line to the booked ones, and that line, or one withdrawn or cleared, is then open without words; refused turns change nothing.
+-- The account after one turn more.
+-- A word taken joins its line at the end, and does nothing else.
+-- Judging that gives out a slip makes its line judged.
+-- A booking done adds the line to the booked ones.
+-- That line, and one withdrawn or cleared, is then open without words.
+-- Refused turns change nothing.
 abbrev pub after_turn : Account → Turn → Account
-after_turn a (word d w (given n)) = with_line a d (record { judged = false; words = (line_of a d).words ++ w ∷ [] })
+after_turn a (word d w (given n)) =
+    with_line a d (record { judged = (line_of a d).judged; words = (line_of a d).words ++ w ∷ [] })
 after_turn a (word d w (refused c)) = a
-after_turn a (judge d (given s)) = with_line a d (record { judged = true; words = (line_of a d).words })
+after_turn a (judge d (given s)) =
+    with_line a d (record { judged = true; words = (line_of a d).words })
 after_turn a (judge d (refused c)) = a
-after_turn a (book s (given n)) = record { lines = slice_set a.lines s.designer empty_line; booked = a.booked ++ record { designer = s.designer; words = (line_of a s.designer).words } ∷ [] }
+after_turn a (book s (given n)) =
+    record {
+      lines = slice_set a.lines s.designer empty_line;
+      booked = a.booked ++ record { designer = s.designer; words = (line_of a s.designer).words } ∷ [];
+    }
 after_turn a (book s (refused c)) = a
 after_turn a (withdraw s (given u)) = with_line a s.designer empty_line
 after_turn a (withdraw s (refused c)) = a
@@ -52,6 +59,6 @@ abbrev pub after_turns : Account → List Turn → Account
 after_turns a [] = a
 after_turns a (t ∷ ts) = after_turns (after_turn a t) ts
 
--- The account of the turns since the opening.
+-- The account of the turns since the opening: before them there are eight open lines without words, and none is booked.
 abbrev pub account : List Turn → Account
-account ts = after_turns no_turns ts
+account ts = after_turns (record { lines = replicate 8 empty_line; booked = [] }) ts

@@ -4,11 +4,11 @@ use Rattle.grammar.specs.Grammar.{Grammar}
 use Rattle.grammar.specs.Derivation.{ShortSentence, Begins}
 use Rattle.grammar.specs.States.{Automaton}
 use Rattle.grammar.specs.Machine.{FewReductions}
-use Rattle.line.specs.Answers.{Answer}
+use Rattle.line.specs.Answers.{Answer, IsGiven}
 use Rattle.plan.specs.Turns.{SlipModel, Turn, word, judge}
 use Rattle.plan.specs.Account.{BookedLine, account, line_of}
 use Rattle.plan.specs.Entries.{Entries}
-use Rattle.plan.specs.RightAnswers.{IsGiven, RightTurn}
+use Rattle.plan.specs.RightAnswers.{RightTurn}
 
 -- Behind what it held at the opening the book holds the entries of the booked lines, in booking order, and so many fewer numbers are free.
 pub record Written (G : Grammar) (b₀ : List ℕ) (n₀ : ℕ) (booked : List BookedLine) (book_now : List ℕ) (free_now : ℕ) : Type 0 where

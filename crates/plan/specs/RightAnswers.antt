@@ -4,15 +4,10 @@ use Rattle.grammar.specs.Grammar.{Grammar, IsTerminal}
 use Rattle.grammar.specs.Derivation.{Derives, Sentence, ShortSentence, Begins}
 use Rattle.grammar.specs.States.{Automaton}
 use Rattle.grammar.specs.Machine.{Run, FewReductions}
-use Rattle.line.specs.Answers.{Answer, given, refused}
+use Rattle.line.specs.Answers.{Answer, given, refused, IsGiven}
 use Rattle.plan.specs.Turns.{SlipModel, Turn, word, judge, book, withdraw, clear}
 use Rattle.plan.specs.Account.{AccountLine, BookedLine, Account, line_of}
 use Rattle.plan.specs.Entries.{EntryOf, Entries}
-
--- The call was not refused.
-abbrev pub IsGiven : {B : Type 0} → Answer B → Type 0
-IsGiven (given x) = Unit {0}
-IsGiven (refused c) = ⊥
 
 -- The designer is one of 0 to 7, and the line is judged or open as wanted.
 pub record Ready (judged : Bool) (designer : ℕ) (l : AccountLine) : Type 0 where

@@ -1,5 +1,5 @@
 -- What a plan and its book show of the turns since the opening.
-use Rattle.std.specs.Prelude.{◌≡◌, ℕ, ◌-◌, ◌^◌, min, Bool, true, false, List, [], ◌∷◌, ◌++◌, map, length, Option}
+use Rattle.std.specs.Prelude.{◌≡◌, ℕ, ◌-◌, ◌^◌, min, Bool, true, false, List, map, length, Option}
 use Rattle.grammar.specs.Grammar.{Grammar}
 use Rattle.grammar.specs.States.{Automaton}
 use Rattle.grammar.specs.Line.{Line, Open, after, judge_line}
@@ -27,7 +27,3 @@ module _ (G : Grammar) (A : Automaton) (cells : ℕ → ℕ → Option Action) w
     pub stands : (d : ℕ) → Stands (plan_line m d).judged (plan_line m d).line
     pub count : m.count ≡ min (length (account turns).booked) (2 ^ 64 - 1)
     pub law : Law G A b₀ n₀ turns list free
-
-  -- Whatever turns plan and book showed before, they now show these and one turn more.
-  abbrev pub Continues : Model → List ℕ → ℕ → Turn → Model → List ℕ → ℕ → Type 0
-  Continues m list free t m' list' free' = (turns : List Turn) (b₀ : List ℕ) (n₀ : ℕ) → Shows turns b₀ n₀ m list free → Shows (turns ++ t ∷ []) b₀ n₀ m' list' free'

@@ -38,12 +38,14 @@ pub record WholeLine (d : ℕ) (ws : List ℕ) (x : Answer ℕ) (turns : List Tu
   pub settling : Settling d slip x second
   pub is : turns ≡ first ++ second
 
--- A call that makes a list of turns, and keeps the law.
-pub record Made {B : Type 0} (list : B → List ℕ) (free : B → ℕ) (P : List Turn → Type 0) (p q : PlanValue B) : Type 0 where
+-- The book grew by some numbers, in its own way to grow.
+abbrev pub Grown : {B : Type 0} → (B → List ℕ → B → Type 0) → B → B → Type 0
+Grown grows b c = (numbers : List ℕ) × grows b numbers c
+
+-- A call that makes a list of turns, keeps the law, and leaves a book that grew.
+pub record Made {B : Type 0} (list : B → List ℕ) (free : B → ℕ) (grows : B → List ℕ → B → Type 0) (P : List Turn → Type 0) (p q : PlanValue B) : Type 0 where
   pub turns : List Turn
   pub are : P turns
   pub law : LawKept list free p turns q
-
--- The book grew by some numbers, in its own way to grow.
-abbrev pub Grown : {C : Type 0} → (C → List ℕ → C → Type 0) → C → C → Type 0
-Grown grows b b' = (numbers : List ℕ) × grows b numbers b'
+  pub grown : Grown grows p.book q.book
+  pub tables : q.tables ≡ p.tables

@@ -10,7 +10,4 @@ mod whole_line;
 
 pub use plan::Plan;
 pub use slip::Slip;
-pub use theorems::{
-    book_steps, clear_steps, every_history, judge_steps, lawful, opening, withdraw_steps,
-    word_steps, worked_entry,
-};
+pub use theorems::worked_entry;

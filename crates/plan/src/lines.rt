@@ -1,105 +1,101 @@
 // The lines of the eight designers.
-ghost use Rattle.bounded.specs.BoundedList.{listed};
 ghost use Rattle.line.specs.PlanLines.{fresh_plan_line};
-ghost use Rattle.plan.specs.Lines.{Brought, Freshened, JudgedThen, LineJudged};
-ghost use Rattle.plan.specs.Admission.{Admitted};
-ghost use Rattle.plan.specs.Bookings.{EntryMade};
+ghost use Rattle.plan.specs.Bookings.{EntryOn};
+ghost use Rattle.plan.specs.Lent.{LendsLine, Lent};
 ghost use Rattle.tables.specs.Building.{held};
+ghost use Rattle.std.specs.Borrow.{sem};
 ghost use Rattle.std.specs.Prelude.{◌≡◌, replicate};
 
-use super::entry::{Entry, entry_of};
-use super::slip::Slip;
-use grammar::Refusal;
-use line::{Line, Status};
+use super::entry::entry_of;
+use book::{Book, enter};
+use line::{Line, Status, TurnRefusal};
 use std::marker::Model;
 use tables::Tables;
 
-// One line for each designer, from 0 to 7. The tables stay in the plan beside them, so each call is given both tables and designer.
+// A designer's line, which clauses see by what it stands for.
+#[derive(Drop)]
+pub struct Seat {
+    pub(crate) line: Line,
+}
+
+impl Model for Seat {
+    ghost use Rattle.line.specs.PlanLines.{PlanLine, plan_line_of};
+
+    ghost Value = { PlanLine };
+
+    ghost view = { λ s. plan_line_of s.line };
+}
+
+// One line for each designer, from 0 to 7.
 #[derive(Drop)]
 pub struct Lines {
-    lines: [Line; 8],
+    seats: [Seat; 8],
 }
 
 // Clauses see what the eight lines stand for.
 impl Model for Lines {
-    ghost use Rattle.line.specs.PlanLines.{PlanLine, plan_line_of};
-    ghost use Rattle.std.specs.Prelude.{List, map};
+    ghost use Rattle.line.specs.PlanLines.{PlanLine};
+    ghost use Rattle.std.specs.Prelude.{List};
 
     ghost Value = { List PlanLine };
 
-    ghost view = { λ l. map plan_line_of l.lines };
+    ghost view = { λ l. l.seats };
 }
 
-// The place of a designer's line. Blank tables are refused before a designer above 7 is.
-fn admit(tables: &Tables, designer: u8) -> Result<usize, Refusal>
-    ensures { Admitted (held tables.now) designer result }
-{
-    if tables.is_blank() {
-        return Err(Refusal::Blank);
+impl Seat {
+    // A fresh line.
+    fn fresh() -> Seat
+        ensures { result ≡ fresh_plan_line }
+    {
+        Seat {
+            line: Line::fresh(),
+        }
     }
-    if designer > 7 {
-        return Err(Refusal::NoDesigner);
+
+    // Puts the entry of a judged line into the book, whole or not at all; the line is then fresh.
+    pub(crate) fn book<B: Book>(&mut self, designer: u8, book: &mut B) -> Result<(), TurnRefusal>
+        ensures { EntryOn B.list B.free B.grows designer self.old book.old result self.new book.new }
+    {
+        self.line.expect(Status::Judged)?;
+        let entry = entry_of(designer, self.line.words(), self.line.rules());
+        if !enter(book, entry.as_slice()) {
+            return Err(TurnRefusal::FullBook);
+        }
+        self.line = Line::fresh();
+        Ok(())
     }
-    Ok(usize::from(designer))
 }
 
 impl Lines {
-    // Eight fresh lines.
+    // Eight fresh lines. A line is not copied once it has a model, so each is written out.
     pub(crate) fn fresh() -> Lines
         ensures { result ≡ replicate 8 fresh_plan_line }
     {
         Lines {
-            lines: [Line::fresh(); 8],
+            seats: [
+                Seat::fresh(),
+                Seat::fresh(),
+                Seat::fresh(),
+                Seat::fresh(),
+                Seat::fresh(),
+                Seat::fresh(),
+                Seat::fresh(),
+                Seat::fresh(),
+            ],
         }
     }
 
-    // Brings a word to a designer's line.
-    pub(crate) fn word(&mut self, tables: &Tables, designer: u8, word: u16) -> Result<u16, Refusal>
-        ensures { Brought (held tables.now) self.old designer word result self.new }
+    // Lends a designer's line for a turn. Blank tables are refused before a designer above 7 is.
+    pub(crate) fn lend(&mut self, tables: &Tables, designer: u8) -> Result<&mut Seat, TurnRefusal>
+        ensures* lends { sem 𝓛 (LendsLine self.entry designer result) }
+        ensures which { Lent (held tables.now) self.old designer result }
     {
-        let place = admit(tables, designer)?;
-        let line = &mut self.lines[place];
-        line.word(tables, word)
-    }
-
-    // Judges a designer's line, and gives out its slip.
-    pub(crate) fn judge(&mut self, tables: &Tables, designer: u8) -> Result<Slip, Refusal>
-        ensures step { LineJudged (held tables.now) self.old designer result self.new }
-        ensures judged { JudgedThen self.new designer result }
-    {
-        let place = admit(tables, designer)?;
-        let line = &mut self.lines[place];
-        let (words, steps) = line.judge(tables)?;
-        Ok(Slip::issue(designer, words, steps))
-    }
-
-    // Makes a designer's line fresh if it has this status.
-    pub(crate) fn freshen(
-        &mut self,
-        tables: &Tables,
-        designer: u8,
-        status: Status,
-    ) -> Result<(), Refusal>
-        ensures { Freshened (held tables.now) self.old designer status result self.new }
-    {
-        let place = admit(tables, designer)?;
-        let line = &mut self.lines[place];
-        if line.status() != status {
-            return Err(Refusal::Status);
+        if tables.is_blank() {
+            return Err(TurnRefusal::Blank);
         }
-        *line = Line::fresh();
-        Ok(())
-    }
-
-    // The entry of a designer's judged line.
-    pub(crate) fn entry(&self, tables: &Tables, designer: u8) -> Result<Entry, Refusal>
-        ensures { EntryMade (held tables.now) self.now designer result }
-    {
-        let place = admit(tables, designer)?;
-        let line = &self.lines[place];
-        if !line.is_judged() {
-            return Err(Refusal::Status);
+        if designer > 7 {
+            return Err(TurnRefusal::NoDesigner);
         }
-        Ok(entry_of(designer, line.words(), line.rules()))
+        Ok(&mut self.seats[usize::from(designer)])
     }
 }

@@ -2,7 +2,7 @@
 ghost use Rattle.plan.specs.Slips.{handed};
 ghost use Rattle.std.specs.Prelude.{◌≡◌};
 
-use grammar::Refusal;
+use line::TurnRefusal;
 use std::marker::Model;
 
 // A judged line's designer, and how many words and derivation steps the line has. The type is no Drop, so a slip cannot be let go.
@@ -45,7 +45,7 @@ impl Slip {
     }
 
     // The end of a slip that a call took: the call done, it is spent; refused, it is handed back.
-    pub(crate) fn settled<T>(self, answer: Result<T, Refusal>) -> Result<T, (Refusal, Slip)>
+    pub(crate) fn settled<T>(self, answer: Result<T, TurnRefusal>) -> Result<T, (TurnRefusal, Slip)>
         ensures { result ≡ handed self answer }
     {
         // Both arms take the slip, which closures for `map` and `map_err` could not share.

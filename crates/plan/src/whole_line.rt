@@ -1,37 +1,37 @@
 // A whole line at once: its words are brought, the line is judged and booked, to the first refusal.
 ghost use Rattle.line.specs.Answers.{answer_of};
 ghost use Rattle.plan.specs.Bookings.{SlipWaits, Waiting};
-ghost use Rattle.plan.specs.Calls.{withdraw_call};
 ghost use Rattle.plan.specs.Plans.{BookGrows, SameBook};
+ghost use Rattle.plan.specs.Steps.{withdraw_step};
 ghost use Rattle.plan.specs.WholeCalls.{judging_call, line_call, settling_call};
-ghost use Rattle.plan.specs.WholeLines.{Grown, Judging, Made, SettlingSlip, WholeLine, Withdrawing};
+ghost use Rattle.plan.specs.WholeLines.{Judging, Made, SettlingSlip, WholeLine, Withdrawing};
 ghost use Rattle.tables.specs.Building.{held};
 ghost use Rattle.std.specs.Prelude.{◌≡◌};
 
 use super::plan::Plan;
 use super::slip::Slip;
 use book::Book;
-use grammar::Refusal;
+use line::TurnRefusal;
 
 impl<B: Book> Plan<B> {
     // Brings the words to the first refusal, and judges the line if there is none.
-    fn judge_words(&mut self, designer: u8, words: &[u16]) -> Result<Slip, Refusal>
+    fn judge_words(&mut self, designer: u8, words: &[u16]) -> Result<Slip, TurnRefusal>
         ensures step { judging_call (held self.old.tables) self.old.model designer words.now ≡ record { answer = answer_of result; next = self.new.model } }
-        ensures made { Made B.list B.free (Judging designer words.now (answer_of result)) self.old self.new }
+        ensures made { Made B.list B.free B.grows (Judging designer words.now (answer_of result)) self.old self.new }
         ensures waiting { Waiting self.new result }
         ensures kept { SameBook self.old self.new }
     {
         for word in words {
             self.word(designer, *word)?;
         }
-        self.judge(designer)
+        self.judge_line(designer)
     }
 
     // Withdraws the line of a slip that waits: this is never refused, so that no slip is lost.
     fn take_back(&mut self, slip: Slip)
         requires { SlipWaits (held self.old.tables) self.old.model slip }
-        ensures step { (withdraw_call (held self.old.tables) self.old.model slip).next ≡ self.new.model }
-        ensures made { Made B.list B.free (Withdrawing slip) self.old self.new }
+        ensures step { (withdraw_step (held self.old.tables) self.old.model slip.designer).next ≡ self.new.model }
+        ensures made { Made B.list B.free B.grows (Withdrawing slip) self.old self.new }
         ensures kept { SameBook self.old self.new }
     {
         if let Err((_, slip)) = self.withdraw(slip) {
@@ -40,12 +40,11 @@ impl<B: Book> Plan<B> {
     }
 
     // Books the line of a slip that waits, or withdraws it where booking is refused.
-    fn settle(&mut self, slip: Slip) -> Result<u64, Refusal>
+    fn settle(&mut self, slip: Slip) -> Result<u64, TurnRefusal>
         requires { SlipWaits (held self.old.tables) self.old.model slip }
         ensures step { let step = settling_call (held self.old.tables) self.old.model (B.free self.old.book) slip in (step.answer ≡ answer_of result) × (step.next ≡ self.new.model) }
         ensures written { BookGrows B.grows self.old.book (settling_call (held self.old.tables) self.old.model (B.free self.old.book) slip).written result self.new.book }
-        ensures made { Made B.list B.free (SettlingSlip slip (answer_of result)) self.old self.new }
-        ensures grown { Grown B.grows self.old.book self.new.book }
+        ensures made { Made B.list B.free B.grows (SettlingSlip slip (answer_of result)) self.old self.new }
         ensures kept { self.new.tables ≡ self.old.tables }
     {
         // The refused arm takes the plan and the slip, which a closure for `map_err` would have to borrow: no plainer.
@@ -59,11 +58,10 @@ impl<B: Book> Plan<B> {
     }
 
     // Brings the words to a designer's line, judges it and books it, to the first refusal; a judged line is then withdrawn, and an open one cleared.
-    pub fn book_words(&mut self, designer: u8, words: &[u16]) -> Result<u64, Refusal>
+    pub fn book_words(&mut self, designer: u8, words: &[u16]) -> Result<u64, TurnRefusal>
         ensures step { let step = line_call B.free self.old designer words.now in (step.answer ≡ answer_of result) × (step.next ≡ self.new.model) }
         ensures written { BookGrows B.grows self.old.book (line_call B.free self.old designer words.now).written result self.new.book }
-        ensures made { Made B.list B.free (WholeLine designer words.now (answer_of result)) self.old self.new }
-        ensures grown { Grown B.grows self.old.book self.new.book }
+        ensures made { Made B.list B.free B.grows (WholeLine designer words.now (answer_of result)) self.old self.new }
         ensures kept { self.new.tables ≡ self.old.tables }
     {
         // Both arms take the plan, which closures for `and_then` and `map_err` could not share.

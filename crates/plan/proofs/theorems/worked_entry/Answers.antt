@@ -3,4 +3,4 @@ use Rattle.std.proofs.Common.{refl}
 use Rattle.plan.proofs.theorems.worked_entry.Goals as goal
 
 pub returns : goal.returns
-returns c = record { theorem = λ states. (refl, refl); answer = refl }
+returns c = record { theorem = λ G n A cells states. (refl, refl); answer = refl }

@@ -7,6 +7,6 @@ use Rattle.plan.proofs.plan.Plan.judge_words.Given as goal
 
 abbrev pub invariant-loop-word : goal.invariant-loop-word
 invariant-loop-word g l =
-    Made g.B.Book.list g.B.Book.free (Taken l.designer (take l.word-index l.words)) l.initial.self l.self
+    Made g.B.Book.list g.B.Book.free g.B.Book.grows (Taken l.designer (take l.word-index l.words)) l.initial.self l.self
     × SameBook l.initial.self l.self
     × (words_call (held l.initial.self.tables) l.initial.self.model l.designer l.words ≡ words_call (held l.initial.self.tables) l.self.model l.designer (drop l.word-index l.words))
