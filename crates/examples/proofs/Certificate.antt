@@ -1,8 +1,8 @@
 -- A certificate: tables, and all the lists by which a test sees that they are the tables of a grammar.
 use Rattle.std.proofs.Common.{ℕ, List, length, Option, Some, None}
 use Rattle.grammar.specs.Outcome.{Built, built}
+use Rattle.grammar.specs.Refusals.{conflict}
 use Rattle.grammar.specs.declared.action.Action.{Action}
-use Rattle.grammar.specs.declared.refusal.Refusal.TheVariants.{Conflict as ConflictRefused}
 use Rattle.examples.specs.Tables.{Tables, automaton, cells}
 use Rattle.examples.proofs.GatherTest.{Entry}
 
@@ -26,7 +26,7 @@ pub record Certificate : Type 0 where
 
 abbrev pub outcome_by : Tables → Option Conflict → Built
 outcome_by t None = built (length t.states) (automaton t) (cells t)
-outcome_by t (Some k) = Built.refused (ConflictRefused k.state k.word k.first k.second)
+outcome_by t (Some k) = Built.refused (conflict k.state k.word k.first k.second)
 
 -- What the certificate says of its grammar.
 abbrev pub outcome_of : Certificate → Built

@@ -5,9 +5,9 @@ use Rattle.grammar.specs.Grammar.{left_side, right_side}
 use Rattle.grammar.specs.Lookahead.{Lookahead}
 use Rattle.grammar.specs.Line.{runs}
 use Rattle.grammar.specs.Outcome.{Outcome, Built, built}
-use Rattle.grammar.specs.Refusals.{told}
+use Rattle.grammar.specs.Refusals.{told, conflict}
 use Rattle.grammar.specs.declared.action.Action.TheVariants.{Reduce}
-use Rattle.grammar.specs.declared.refusal.Refusal.TheVariants.{Layout, Conflict}
+use Rattle.grammar.specs.declared.refusal.Refusal.TheVariants.{Layout}
 use Rattle.sheet.specs.Packing.{Lies, lowest, OffTold, tells}
 use Rattle.examples.specs.Tables.{automaton, cells}
 use Rattle.examples.specs.Sheets.{sheet_a, sheet_b, sheet_c, packed_a, tables_a, tables_b}
@@ -33,7 +33,7 @@ b_builds : Outcome sheet_b (built 10 (automaton tables_b) (cells tables_b))
 unfolding certificate_b tables_b
 b_builds = outcome sheet_b certificate_b passed_b
 
-c_conflict : Outcome sheet_c (Built.refused (Conflict 2 1 (Reduce 5) (Reduce 6)))
+c_conflict : Outcome sheet_c (Built.refused (conflict 2 1 (Reduce 5) (Reduce 6)))
 unfolding certificate_c
 c_conflict = outcome sheet_c certificate_c passed_c
 

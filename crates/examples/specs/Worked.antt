@@ -3,9 +3,9 @@ use Rattle.std.specs.Prelude.{◌≡◌, ℕ, ◌⊎◌, ◌↔◌, [], ◌∷�
 use Rattle.grammar.specs.Lookahead.{Lookahead}
 use Rattle.grammar.specs.Line.{Turned, after}
 use Rattle.grammar.specs.Outcome.{Built, built, Outcome}
-use Rattle.grammar.specs.Refusals.{told}
+use Rattle.grammar.specs.Refusals.{told, conflict}
 use Rattle.grammar.specs.declared.action.Action.TheVariants.{Shift, Reduce}
-use Rattle.grammar.specs.declared.refusal.Refusal.TheVariants.{Layout, Conflict}
+use Rattle.grammar.specs.declared.refusal.Refusal.TheVariants.{Layout}
 use Rattle.sheet.specs.Packing.{packed, OffTold}
 use Rattle.examples.specs.Tables.{automaton, cells}
 use Rattle.examples.specs.Sheets.{sheet_a, sheet_b, sheet_c, packed_a, tables_a, tables_b}
@@ -32,4 +32,4 @@ pub record Worked : Type 0 where
   pub b_shifts : cells tables_b 5 1 ≡ Some (Shift 8)
   pub b_reduces : cells tables_b 5 3 ≡ Some (Reduce 4)
   -- Sheet C is refused: in its state 2, at word 1, rules 5 and 6 meet.
-  pub c_conflict : Outcome sheet_c (Built.refused (Conflict 2 1 (Reduce 5) (Reduce 6)))
+  pub c_conflict : Outcome sheet_c (Built.refused (conflict 2 1 (Reduce 5) (Reduce 6)))

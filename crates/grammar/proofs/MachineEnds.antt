@@ -4,7 +4,7 @@ use mathlib.Core.List.{cons≢nil}
 use Rattle.grammar.specs.Grammar.{Grammar, left_side, right_side}
 use Rattle.grammar.specs.States.{Automaton}
 use Rattle.grammar.specs.Cells.{Holds, ConflictFree, Exact}
-use Rattle.grammar.specs.Machine.{Run, halt, Accepts, accept, shift, reduce}
+use Rattle.grammar.specs.Machine.{Goes, Run, halt, Accepts, accept, shift, reduce}
 use Rattle.grammar.specs.Line.{Ended, stuck, full, shifted, accepted, noted, act, put_on, go_on, runs}
 use Rattle.grammar.specs.declared.action.Action.{Action}
 use Rattle.grammar.specs.declared.action.Action.TheVariants.{Shift, Accept, Reduce}
@@ -27,9 +27,9 @@ module _ (G : Grammar) (A : Automaton) where
   module _ (w s r n : ℕ) (σ : List ℕ) (h : Holds G A s w (Reduce r)) where
     says_noted : (q t : ℕ) (ρ : List ℕ) → drop (length (right_side G r)) (s ∷ σ) ≡ q ∷ ρ → A.goto q (left_side G r) ≡ Some t → (o : Ended) → Says n w (t ∷ q ∷ ρ) o → Says (suc n) w (s ∷ σ) (noted r o)
     says_noted q t ρ d g stuck x = tt
-    says_noted q t ρ d g full x = λ k. let y = x k in (r ∷ y.0, y.1, y.2, y.3, Run.reduce h d g y.4, y.5, ap suc y.6)
-    says_noted q t ρ d g (shifted τ ps) x = (λ k. Run.reduce h d g (x.0 k), suc-le-suc x.1)
-    says_noted q t ρ d g (accepted τ ps) x = (Run.reduce h d g x.0, Accepts.reduce h d g x.1, suc-le-suc x.2)
+    says_noted q t ρ d g full x = λ k. let y = x k in (r ∷ y.0, y.1, y.2, y.3, Goes.reduce h d g y.4, y.5, ap suc y.6)
+    says_noted q t ρ d g (shifted τ ps) x = (λ k. Goes.reduce h d g (x.0 k), suc-le-suc x.1)
+    says_noted q t ρ d g (accepted τ ps) x = (Goes.reduce h d g x.0, Accepts.reduce h d g x.1, suc-le-suc x.2)
 
     module _ (next : List ℕ → Ended) (says_next : (τ : List ℕ) → Says n w τ (next τ)) where
       says_put : (q : ℕ) (ρ : List ℕ) → drop (length (right_side G r)) (s ∷ σ) ≡ q ∷ ρ → (o : Option ℕ) → A.goto q (left_side G r) ≡ o → Says (suc n) w (s ∷ σ) (put_on next r (q ∷ ρ) o)
@@ -58,7 +58,7 @@ module _ (G : Grammar) (A : Automaton) (cells : ℕ → ℕ → Option Action) (
 
   says_act : (w s n : ℕ) (σ : List ℕ) (f : ℕ → Ended) → ((r : ℕ) → Holds G A s w (Reduce r) → Says G A n w (s ∷ σ) (f r)) → (o : Option Action) → cells s w ≡ o → Says G A n w (s ∷ σ) (act (s ∷ σ) f o)
   says_act w s n σ f x None e = tt
-  says_act w s n σ f x (Some (Shift t)) e = (λ k. Run.shift ((exact s w (Shift t)).0 e) halt, omega arith)
+  says_act w s n σ f x (Some (Shift t)) e = (λ k. Goes.shift ((exact s w (Shift t)).0 e) halt, omega arith)
   says_act w s n σ f x (Some (Reduce r)) e = x r ((exact s w (Reduce r)).0 e)
   says_act w s n σ f x (Some Accept) e = (halt, Accepts.accept ((exact s w Accept).0 e), omega arith)
 

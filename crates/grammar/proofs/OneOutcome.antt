@@ -5,16 +5,16 @@ use Rattle.grammar.specs.Grammar.{Grammar, IsRule}
 use Rattle.grammar.specs.States.{Automaton, Numbered, Crowded}
 use Rattle.grammar.specs.Cells.{rank, FirstConflict, Exact}
 use Rattle.grammar.specs.Outcome.{Within, InRange, LowestOutOfRange, LowestUseless, Sound, Built, refused, built, Outcome, off_limits, out_of_range, useless, crowded, conflicting, done, SameBuilt, same_refusal, same_tables}
+use Rattle.grammar.specs.Refusals.{Told}
+use Rattle.grammar.specs.Refusals as tells
 use Rattle.grammar.specs.Theorems.{OneOutcome}
 use Rattle.grammar.specs.declared.action.Action.{Action}
-use Rattle.grammar.specs.declared.refusal.Refusal.{Refusal}
-use Rattle.grammar.specs.declared.refusal.Refusal.TheVariants.{Limits, Range, Useless as UselessNonterminal, States, Conflict}
 use Rattle.grammar.proofs.Agreement.{option_iff}
 use Rattle.grammar.proofs.OneNumbering.{one_numbering, one_automaton}
 use Rattle.grammar.proofs.NotCrowded.{not_crowded}
 use Rattle.grammar.proofs.OneConflict.{one_pair, one_place}
 
-equal_refusals : {e f : Refusal} → e ≡ f → SameBuilt (refused e) (refused f)
+equal_refusals : {e f : Told} → e ≡ f → SameBuilt (refused e) (refused f)
 equal_refusals {e} p = subst (λ f. SameBuilt (refused e) (refused f)) p same_refusal
 
 module _ (G : Grammar) where
@@ -46,12 +46,18 @@ module _ (G : Grammar) where
   one_table {cells = cells} {dells = dells} x y s w =
       option_iff (cells s w) (dells s w) (λ a h. (y s w a).1 ((x s w a).0 h)) (λ a h. (x s w a).1 ((y s w a).0 h))
 
-  one_conflict : {n m s w p v : ℕ} {A B : Automaton} {a b c d : Action} → Numbered G n A → Numbered G m B → FirstConflict G A s w a b → FirstConflict G B p v c d → Conflict s w a b ≡ Conflict p v c d
+  one_conflict :
+      {n m s w p v : ℕ} {A B : Automaton} {a b c d : Action}
+      → Numbered G n A
+      → Numbered G m B
+      → FirstConflict G A s w a b
+      → FirstConflict G B p v c d
+      → tells.conflict s w a b ≡ tells.conflict p v c d
   one_conflict {n = n} {m = m} {s = s} {w = w} {p = p} {v = v} {A = A} {B = B} {a = a} {b = b} {c = c} {d = d} N M F E =
       let F' : FirstConflict G B s w a b = subst (λ K. FirstConflict G K s w a b) (one_automaton G n m A B N M) F in
       let at = one_place G B F' E in
       let two = one_pair G B (subst₂ (λ q u. FirstConflict G B q u a b) at.0 at.1 F') E in
-      λ i. Conflict (at.0 i) (at.1 i) (two.0 i) (two.1 i)
+      λ i. tells.conflict (at.0 i) (at.1 i) (two.0 i) (two.1 i)
 
   one_build : {n m : ℕ} {A B : Automaton} {cells dells : ℕ → ℕ → Option Action} → Numbered G n A → Numbered G m B → Exact G A cells → Exact G B dells → SameBuilt (built n A cells) (built m B dells)
   one_build {n = n} {m = m} {A = A} {B = B} {cells = cells} {dells = dells} N M x y =
@@ -60,7 +66,7 @@ module _ (G : Grammar) where
       subst (λ k. SameBuilt (built n A cells) (built k B dells)) one.0 (same_tables one.1.has one.1.goto (one_table x' y))
 
   -- For each cause, that no other outcome fits.
-  if_off_limits : {y : Built} → (Within G → ⊥) → Outcome G y → SameBuilt (refused Limits) y
+  if_off_limits : {y : Built} → (Within G → ⊥) → Outcome G y → SameBuilt (refused tells.limits) y
   if_off_limits h (off_limits k) = same_refusal
   if_off_limits h (out_of_range w l) = absurd (h w)
   if_off_limits h (useless w i l) = absurd (h w)
@@ -68,23 +74,40 @@ module _ (G : Grammar) where
   if_off_limits h (conflicting w s few N F) = absurd (h w)
   if_off_limits h (done w s few N x) = absurd (h w)
 
-  if_out_of_range : {y : Built} {r : ℕ} → Within G → LowestOutOfRange G r → Outcome G y → SameBuilt (refused (Range r)) y
+  if_out_of_range :
+      {y : Built} {r : ℕ}
+      → Within G
+      → LowestOutOfRange G r
+      → Outcome G y
+      → SameBuilt (refused (tells.range r)) y
   if_out_of_range w l (off_limits k) = absurd (k w)
-  if_out_of_range w l (out_of_range v k) = equal_refusals (ap Range (one_rule l k))
+  if_out_of_range w l (out_of_range v k) = equal_refusals (ap tells.range (one_rule l k))
   if_out_of_range w l (useless v i k) = absurd (none_out l i)
   if_out_of_range w l (crowded v s c) = absurd (none_out l s.in_range)
   if_out_of_range w l (conflicting v s few N F) = absurd (none_out l s.in_range)
   if_out_of_range w l (done v s few N x) = absurd (none_out l s.in_range)
 
-  if_useless : {y : Built} {X : ℕ} → Within G → AllInRange → LowestUseless G X → Outcome G y → SameBuilt (refused (UselessNonterminal X)) y
+  if_useless :
+      {y : Built} {X : ℕ}
+      → Within G
+      → AllInRange
+      → LowestUseless G X
+      → Outcome G y
+      → SameBuilt (refused (tells.useless X)) y
   if_useless w i u (off_limits k) = absurd (k w)
   if_useless w i u (out_of_range v l) = absurd (none_out l i)
-  if_useless w i u (useless v j l) = equal_refusals (ap UselessNonterminal (one_nonterminal u l))
+  if_useless w i u (useless v j l) = equal_refusals (ap tells.useless (one_nonterminal u l))
   if_useless {X = X} w i u (crowded v s c) = absurd (s.useful X u.useless)
   if_useless {X = X} w i u (conflicting v s few N F) = absurd (s.useful X u.useless)
   if_useless {X = X} w i u (done v s few N x) = absurd (s.useful X u.useless)
 
-  if_crowded : {y : Built} → Within G → Sound G → Crowded G → Outcome G y → SameBuilt (refused States) y
+  if_crowded :
+      {y : Built}
+      → Within G
+      → Sound G
+      → Crowded G
+      → Outcome G y
+      → SameBuilt (refused tells.states) y
   if_crowded w s c (off_limits k) = absurd (k w)
   if_crowded w s c (out_of_range v l) = absurd (none_out l s.in_range)
   if_crowded w s c (useless {X = X} v i l) = absurd (s.useful X l.useless)
@@ -92,7 +115,15 @@ module _ (G : Grammar) where
   if_crowded w s c (conflicting {n = n} {A = A} v t few N F) = absurd (not_crowded G n A few N c)
   if_crowded w s c (done {n = n} {A = A} v t few N x) = absurd (not_crowded G n A few N c)
 
-  if_conflicting : {y : Built} {n s w : ℕ} {A : Automaton} {a b : Action} → Within G → Sound G → n ≤ 96 → Numbered G n A → FirstConflict G A s w a b → Outcome G y → SameBuilt (refused (Conflict s w a b)) y
+  if_conflicting :
+      {y : Built} {n s w : ℕ} {A : Automaton} {a b : Action}
+      → Within G
+      → Sound G
+      → n ≤ 96
+      → Numbered G n A
+      → FirstConflict G A s w a b
+      → Outcome G y
+      → SameBuilt (refused (tells.conflict s w a b)) y
   if_conflicting w s few N F (off_limits k) = absurd (k w)
   if_conflicting w s few N F (out_of_range v l) = absurd (none_out l s.in_range)
   if_conflicting w s few N F (useless {X = X} v i l) = absurd (s.useful X l.useless)

@@ -4,7 +4,7 @@ use mathlib.Core.List.{head-eq_of_cons-eq}
 use Rattle.grammar.specs.Grammar.{Grammar, left_side, right_side}
 use Rattle.grammar.specs.States.{Automaton}
 use Rattle.grammar.specs.Cells.{Holds, ConflictFree}
-use Rattle.grammar.specs.Machine.{Run, halt, Accepts, accept, shift, reduce}
+use Rattle.grammar.specs.Machine.{Goes, Run, halt, Accepts, accept, shift, reduce}
 use Rattle.grammar.specs.declared.action.Action.TheVariants.{Shift, Accept, Reduce}
 use Rattle.grammar.proofs.Dots.{one_target}
 
@@ -29,8 +29,8 @@ module _ {G : Grammar} {A : Automaton} where
   -- Accepting is a run to an accept.
   pub run_of : {σ i ps : List ℕ} → Accepts G A σ i ps → (s : ℕ) × (τ : List ℕ) × (w : ℕ) × Run G A σ i ps (s ∷ τ) (w ∷ []) × Holds G A s w Accept
   run_of (accept {s = s} {w = w} {σ = σ} h) = (s, σ, w, halt, h)
-  run_of (shift h x) = let y = run_of x in (y.0, y.1, y.2, Run.shift h y.3, y.4)
-  run_of (reduce h d g x) = let y = run_of x in (y.0, y.1, y.2, Run.reduce h d g y.3, y.4)
+  run_of (shift h x) = let y = run_of x in (y.0, y.1, y.2, Goes.shift h y.3, y.4)
+  run_of (reduce h d g x) = let y = run_of x in (y.0, y.1, y.2, Goes.reduce h d g y.3, y.4)
 
   module _ (free : ConflictFree G A) where
     -- Two reductions of one cell leave the same stack.
@@ -44,12 +44,12 @@ module _ {G : Grammar} {A : Automaton} where
     -- Accepting goes on along any run, and the rules noted by the run are the first.
     pub along : {σ i qs τ j ps : List ℕ} → Run G A σ i qs τ j → Accepts G A σ i ps → (rs : List ℕ) × (ps ≡ qs ++ rs) × Accepts G A τ j rs
     along {ps = ps} halt y = (ps, refl, y)
-    along (Run.shift h x) (accept k) = cc (free _ _ _ _ h k)
-    along (Run.shift {s = s} {σ = σ} {i = i} h x) (shift {ps = qs} k y) = along x (subst (λ t. Accepts G A (t ∷ s ∷ σ) i qs) (same_shift (free _ _ _ _ k h)) y)
-    along (Run.shift h x) (reduce k d g y) = cc (free _ _ _ _ h k)
-    along (Run.reduce h d g x) (accept k) = cc (free _ _ _ _ h k)
-    along (Run.reduce h d g x) (shift k y) = cc (free _ _ _ _ k h)
-    along (Run.reduce {w = w} {σ = σ} {i = i} h d g x) (reduce {ps = qs} k d' g' y) =
+    along (Goes.shift h x) (accept k) = cc (free _ _ _ _ h k)
+    along (Goes.shift {s = s} {σ = σ} {i = i} h x) (shift {ps = qs} k y) = along x (subst (λ t. Accepts G A (t ∷ s ∷ σ) i qs) (same_shift (free _ _ _ _ k h)) y)
+    along (Goes.shift h x) (reduce k d g y) = cc (free _ _ _ _ h k)
+    along (Goes.reduce h d g x) (accept k) = cc (free _ _ _ _ h k)
+    along (Goes.reduce h d g x) (shift k y) = cc (free _ _ _ _ k h)
+    along (Goes.reduce {w = w} {σ = σ} {i = i} h d g x) (reduce {ps = qs} k d' g' y) =
         let v = along x (subst (λ l. Accepts G A l (w ∷ i) qs) (same_stack σ h d g k d' g') y) in
         (v.0, ap₂ (λ n l. n ∷ l) (sym (same_reduce (free _ _ _ _ h k))) v.1, v.2)
 
@@ -68,19 +68,19 @@ module _ {G : Grammar} {A : Automaton} where
     -- No run over an input notes more rules than one that comes to its end.
     pub most_rules : {σ i ps τ qs υ j : List ℕ} → Run G A σ i ps τ [] → Run G A σ i qs υ j → length qs ≤ length ps
     most_rules x halt = omega arith
-    most_rules (Run.shift h x) (Run.shift {s = s} {σ = σ} {i = i} {ps = qs} {τ = υ} {j = j} k y) = most_rules x (subst (λ t. Run G A (t ∷ s ∷ σ) i qs υ j) (same_shift (free _ _ _ _ k h)) y)
-    most_rules (Run.reduce h d g x) (Run.shift k y) = cc (free _ _ _ _ k h)
-    most_rules (Run.shift h x) (Run.reduce k d g y) = cc (free _ _ _ _ h k)
-    most_rules (Run.reduce h d g x) (Run.reduce {w = w} {σ = σ} {i = i} {ps = qs} {τ = υ} {j = j} k d' g' y) = suc-le-suc (most_rules x (subst (λ l. Run G A l (w ∷ i) qs υ j) (same_stack σ h d g k d' g') y))
+    most_rules (Goes.shift h x) (Goes.shift {s = s} {σ = σ} {i = i} {ps = qs} {τ = υ} {j = j} k y) = most_rules x (subst (λ t. Run G A (t ∷ s ∷ σ) i qs υ j) (same_shift (free _ _ _ _ k h)) y)
+    most_rules (Goes.reduce h d g x) (Goes.shift k y) = cc (free _ _ _ _ k h)
+    most_rules (Goes.shift h x) (Goes.reduce k d g y) = cc (free _ _ _ _ h k)
+    most_rules (Goes.reduce h d g x) (Goes.reduce {w = w} {σ = σ} {i = i} {ps = qs} {τ = υ} {j = j} k d' g' y) = suc-le-suc (most_rules x (subst (λ l. Run G A l (w ∷ i) qs υ j) (same_stack σ h d g k d' g') y))
 
     -- A run notes no more rules than another from the same place, or goes on from where that ends.
     pub onward : {σ i ps τ j qs υ k : List ℕ} → Run G A σ i ps τ j → Run G A σ i qs υ k → (length qs ≤ length ps) ⊎ ((rs : List ℕ) × (qs ≡ ps ++ rs) × Run G A τ j rs υ k)
     onward {qs = qs} halt y = inr (qs, refl, y)
-    onward (Run.shift h x) halt = inl (omega arith)
-    onward (Run.reduce h d g x) halt = inl (omega arith)
-    onward (Run.shift h x) (Run.shift {s = s} {σ = σ} {i = i} {ps = qs} {τ = υ} {j = k} h' y) = onward x (subst (λ t. Run G A (t ∷ s ∷ σ) i qs υ k) (same_shift (free _ _ _ _ h' h)) y)
-    onward (Run.shift h x) (Run.reduce h' d g y) = cc (free _ _ _ _ h h')
-    onward (Run.reduce h d g x) (Run.shift h' y) = cc (free _ _ _ _ h' h)
-    onward (Run.reduce {r = r} h d g x) (Run.reduce {w = w} {r = r'} {σ = σ} {i = i} {ps = qs} {τ = υ} {j = k} h' d' g' y) =
+    onward (Goes.shift h x) halt = inl (omega arith)
+    onward (Goes.reduce h d g x) halt = inl (omega arith)
+    onward (Goes.shift h x) (Goes.shift {s = s} {σ = σ} {i = i} {ps = qs} {τ = υ} {j = k} h' y) = onward x (subst (λ t. Run G A (t ∷ s ∷ σ) i qs υ k) (same_shift (free _ _ _ _ h' h)) y)
+    onward (Goes.shift h x) (Goes.reduce h' d g y) = cc (free _ _ _ _ h h')
+    onward (Goes.reduce h d g x) (Goes.shift h' y) = cc (free _ _ _ _ h' h)
+    onward (Goes.reduce {r = r} h d g x) (Goes.reduce {w = w} {r = r'} {σ = σ} {i = i} {ps = qs} {τ = υ} {j = k} h' d' g' y) =
         ⊎_elim (λ e. inl (suc-le-suc e)) (λ z. inr (z.0, ap₂ (λ n l. n ∷ l) (sym (same_reduce (free _ _ _ _ h h'))) z.1, z.2))
         (onward x (subst (λ l. Run G A l (w ∷ i) qs υ k) (same_stack σ h d g h' d' g') y))

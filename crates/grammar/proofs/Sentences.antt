@@ -8,7 +8,6 @@ use Rattle.grammar.specs.States.{Automaton, Laws}
 use Rattle.grammar.specs.Cells.{ConflictFree}
 use Rattle.grammar.specs.Machine.{AcceptsWords, Run}
 use Rattle.grammar.proofs.DerivedTrees.{rightmost_of, forest_of}
-use Rattle.grammar.proofs.FormSteps.{derived, derives}
 use Rattle.grammar.proofs.Runs.{same_rules}
 use Rattle.grammar.proofs.FollowedTrees.{complete}
 use Rattle.grammar.proofs.SpelledStacks.{sound}
@@ -16,10 +15,10 @@ use Rattle.grammar.proofs.ViablePrefix.{prefix_tree}
 
 module _ {G : Grammar} (v : Valid G) where
   pub tree_of : (ds ws : List ℕ) → Derives G ds ws → TreeOf G ws (reverse ds)
-  tree_of ds ws e = forest_of v (derived G ds _ ws e)
+  tree_of ds ws e = forest_of v e
 
   pub derivation_of : (ps ws : List ℕ) → TreeOf G ws ps → Derives G (reverse ps) ws
-  derivation_of ps ws f = derives G v (rightmost_of f)
+  derivation_of ps ws f = rightmost_of f
 
   pub postorder : (ds ws : List ℕ) → Derives G ds ws ↔ TreeOf G ws (reverse ds)
   postorder ds ws = (tree_of ds ws, λ f. rw (reverse-reverse ds) at (derivation_of (reverse ds) ws f))

@@ -2,13 +2,34 @@
 use Rattle.std.specs.Prelude.{◌≡◌, ℕ, ◌≤◌, Bool, cond, ◌&&◌, List, [], ◌∷◌, ◌++◌, length, ◌==◌, nat_le, Option, Some, None, option_and_then}
 use Rattle.grammar.specs.Grammar.{Grammar, IsRule, AllTerminals, left_side, right_side, start}
 
+-- A form, the rules that replace its last nonterminal one after the other, and the words that are left.
+pub data Rightmost (G : Grammar) : List ℕ → List ℕ → List ℕ → Type 0 where
+  done : {ws : List ℕ} → AllTerminals G ws → Rightmost G ws [] ws
+  step : {r : ℕ} {rs ws : List ℕ} (α us : List ℕ) → IsRule G r → AllTerminals G us → Rightmost G (α ++ (right_side G r ++ us)) rs ws → Rightmost G (α ++ left_side G r ∷ us) (r ∷ rs) ws
+
+-- The rules ds are a rightmost derivation of the words ws, from the start alone; each is a derivation step.
+abbrev pub Derives : Grammar → List ℕ → List ℕ → Type 0
+Derives G ds ws = Rightmost G (start G ∷ []) ds ws
+
+-- A sentence is a list of words that has a rightmost derivation.
+abbrev pub Sentence : Grammar → List ℕ → Type 0
+Sentence G ws = (ds : List ℕ) × Derives G ds ws
+
+-- A sentence with at most 768 derivation steps.
+abbrev pub ShortSentence : Grammar → List ℕ → Type 0
+ShortSentence G ws = (ds : List ℕ) × Derives G ds ws × (length ds ≤ 768)
+
+-- Some sentence begins with the words.
+abbrev pub Begins : Grammar → List ℕ → Type 0
+Begins G ws = (vs : List ℕ) × Sentence G (ws ++ vs)
+
 abbrev pub is_terminal : Grammar → ℕ → Bool
 is_terminal G w = nat_le 1 w && nat_le w G.terminals
 
 abbrev pub is_rule : Grammar → ℕ → Bool
 is_rule G r = nat_le 1 r && nat_le r (length G.rules)
 
--- A form cut at its last nonterminal.
+-- The same as a computation: a form is cut at its last nonterminal.
 pub record Cut : Type 0 where
   pub before : List ℕ
   pub nonterminal : ℕ
@@ -36,24 +57,3 @@ finished ws (Some c) = None
 unfoldable pub derive : Grammar → List ℕ → List ℕ → Option (List ℕ)
 derive G [] form = finished form (last_nonterminal G form)
 derive G (r ∷ rs) form = option_and_then (derive G rs) (replaced G r (last_nonterminal G form))
-
--- The rules ds are a rightmost derivation of the words ws; each is a derivation step.
-abbrev pub Derives : Grammar → List ℕ → List ℕ → Type 0
-Derives G ds ws = derive G ds (start G ∷ []) ≡ Some ws
-
--- A sentence is a list of words that has a rightmost derivation.
-abbrev pub Sentence : Grammar → List ℕ → Type 0
-Sentence G ws = (ds : List ℕ) × Derives G ds ws
-
--- A sentence with at most 768 derivation steps.
-abbrev pub ShortSentence : Grammar → List ℕ → Type 0
-ShortSentence G ws = (ds : List ℕ) × Derives G ds ws × (length ds ≤ 768)
-
--- Some sentence begins with the words.
-abbrev pub Begins : Grammar → List ℕ → Type 0
-Begins G ws = (vs : List ℕ) × Sentence G (ws ++ vs)
-
--- The same by steps between forms.
-pub data Rightmost (G : Grammar) : List ℕ → List ℕ → List ℕ → Type 0 where
-  done : {ws : List ℕ} → AllTerminals G ws → Rightmost G ws [] ws
-  step : {r : ℕ} {rs ws : List ℕ} (α us : List ℕ) → IsRule G r → AllTerminals G us → Rightmost G (α ++ (right_side G r ++ us)) rs ws → Rightmost G (α ++ left_side G r ∷ us) (r ∷ rs) ws

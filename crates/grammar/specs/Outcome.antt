@@ -4,9 +4,9 @@ use Rattle.grammar.specs.Grammar.{Grammar, IsRule, IsNonterminal, AllCodes, left
 use Rattle.grammar.specs.States.{Automaton, Numbered, Crowded}
 use Rattle.grammar.specs.Cells.{FirstConflict, Exact}
 use Rattle.grammar.specs.Useful.{Useless}
+use Rattle.grammar.specs.Refusals.{Told}
+use Rattle.grammar.specs.Refusals as tells
 use Rattle.grammar.specs.declared.action.Action.{Action}
-use Rattle.grammar.specs.declared.refusal.Refusal.{Refusal}
-use Rattle.grammar.specs.declared.refusal.Refusal.TheVariants.{Limits, Range, Useless as UselessNonterminal, States, Conflict}
 
 -- The counts are within their limits.
 pub record Counted (G : Grammar) : Type 0 where
@@ -43,20 +43,40 @@ pub record Sound (G : Grammar) : Type 0 where
   pub in_range : (r : ℕ) → IsRule G r → InRange G r
   pub useful : (X : ℕ) → Useless G X → ⊥
 
+-- Refused, with what is told, or built: how many states, how they hang together, and their cells.
 pub data Built : Type 0 where
-  refused : Refusal → Built
+  refused : Told → Built
   built : ℕ → Automaton → (ℕ → ℕ → Option Action) → Built
 
 -- The outcome of building a grammar: causes are tried in this order.
 pub data Outcome (G : Grammar) : Built → Type 0 where
-  off_limits : (Within G → ⊥) → Outcome G (refused Limits)
-  out_of_range : {r : ℕ} → Within G → LowestOutOfRange G r → Outcome G (refused (Range r))
-  useless : {X : ℕ} → Within G → ((r : ℕ) → IsRule G r → InRange G r) → LowestUseless G X → Outcome G (refused (UselessNonterminal X))
-  crowded : Within G → Sound G → Crowded G → Outcome G (refused States)
-  conflicting : {n s w : ℕ} {A : Automaton} {a b : Action} → Within G → Sound G → n ≤ 96 → Numbered G n A → FirstConflict G A s w a b → Outcome G (refused (Conflict s w a b))
-  done : {n : ℕ} {A : Automaton} {cells : ℕ → ℕ → Option Action} → Within G → Sound G → n ≤ 96 → Numbered G n A → Exact G A cells → Outcome G (built n A cells)
+  off_limits : (Within G → ⊥) → Outcome G (refused tells.limits)
+  out_of_range : {r : ℕ} → Within G → LowestOutOfRange G r → Outcome G (refused (tells.range r))
+  useless :
+      {X : ℕ}
+      → Within G
+      → ((r : ℕ) → IsRule G r → InRange G r)
+      → LowestUseless G X
+      → Outcome G (refused (tells.useless X))
+  crowded : Within G → Sound G → Crowded G → Outcome G (refused tells.states)
+  conflicting :
+      {n s w : ℕ} {A : Automaton} {a b : Action}
+      → Within G
+      → Sound G
+      → n ≤ 96
+      → Numbered G n A
+      → FirstConflict G A s w a b
+      → Outcome G (refused (tells.conflict s w a b))
+  done :
+      {n : ℕ} {A : Automaton} {cells : ℕ → ℕ → Option Action}
+      → Within G
+      → Sound G
+      → n ≤ 96
+      → Numbered G n A
+      → Exact G A cells
+      → Outcome G (built n A cells)
 
 -- Two outcomes are the same, tables by their cells.
 pub data SameBuilt : Built → Built → Type 0 where
-  same_refusal : {e : Refusal} → SameBuilt (refused e) (refused e)
+  same_refusal : {e : Told} → SameBuilt (refused e) (refused e)
   same_tables : {n : ℕ} {A B : Automaton} {cells dells : ℕ → ℕ → Option Action} → ((s r d : ℕ) → A.has s r d ≡ B.has s r d) → ((s X : ℕ) → A.goto s X ≡ B.goto s X) → ((s w : ℕ) → cells s w ≡ dells s w) → SameBuilt (built n A cells) (built n B dells)

@@ -12,14 +12,35 @@ pub record Told : Type 0 where
   pub number : ℕ
   pub values : List Value
 
+-- What building tells where it is refused: limits are passed, a rule has a code out of range,
+-- a nonterminal is useless, there are too many states, a cell has two actions.
+abbrev pub limits : Told
+limits = record { number = 3; values = [] }
+
+abbrev pub range : ℕ → Told
+range rule = record { number = 4; values = number rule ∷ [] }
+
+abbrev pub useless : ℕ → Told
+useless nonterminal = record { number = 5; values = number nonterminal ∷ [] }
+
+abbrev pub states : Told
+states = record { number = 6; values = [] }
+
+abbrev pub conflict : ℕ → ℕ → Action → Action → Told
+conflict state word first second =
+    record {
+      number = 7;
+      values = number state ∷ number word ∷ action first ∷ action second ∷ [];
+    }
+
 abbrev pub told : Refusal → Told
 told (Layout rule) = record { number = 1; values = number rule ∷ [] }
 told (Form place) = record { number = 2; values = number place ∷ [] }
-told Limits = record { number = 3; values = [] }
-told (Range rule) = record { number = 4; values = number rule ∷ [] }
-told (Useless nonterminal) = record { number = 5; values = number nonterminal ∷ [] }
-told States = record { number = 6; values = [] }
-told (Conflict state word first second) = record { number = 7; values = number state ∷ number word ∷ action first ∷ action second ∷ [] }
+told Limits = limits
+told (Range rule) = range rule
+told (Useless nonterminal) = useless nonterminal
+told States = states
+told (Conflict state word first second) = conflict state word first second
 told Blank = record { number = 8; values = [] }
 told NoDesigner = record { number = 9; values = [] }
 told Status = record { number = 10; values = [] }

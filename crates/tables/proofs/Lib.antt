@@ -41,6 +41,7 @@ pub mod FilledCells
 pub mod Outcomes
 pub mod RuleReadings
 pub mod HeldTables
+pub mod BuildRefusals
 pub mod OnlyBuilds
 pub mod Admissions
 pub mod StateItems

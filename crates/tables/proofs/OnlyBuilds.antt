@@ -8,10 +8,12 @@ use Rattle.grammar.specs.Grammar.{Grammar, Rule}
 use Rattle.grammar.specs.States.{Automaton}
 use Rattle.grammar.specs.Outcome.{Built, Outcome, refused, built, SameBuilt, same_refusal, same_tables}
 use Rattle.grammar.specs.declared.action.Action.{Action}
-use Rattle.grammar.specs.declared.refusal.Refusal.{Refusal}
 use Rattle.grammar.proofs.OneOutcome.{one_outcome}
+use Rattle.tables.specs.declared.build_refusal.BuildRefusal.{BuildRefusal}
+use Rattle.tables.specs.BuildRefusals.{told}
 use Rattle.tables.specs.Building.{BuiltFrom, OnlyBuild}
 use Rattle.tables.specs.Held.{Held, holding}
+use Rattle.tables.proofs.BuildRefusals.{told_once}
 
 Rule-set : IsSet Rule
 Rule-set = hlevel props
@@ -47,12 +49,21 @@ module _ (G : Grammar) where
   one : (x y : Built) → Outcome G x → Outcome G y → Shared x y
   one x y o p = shared (one_outcome G x y o p)
 
-  same_build : (r : Result (Unit {0}) Refusal) (h : Held) → BuiltFrom G r h → (s : Result (Unit {0}) Refusal) (k : Held) → BuiltFrom G s k → (s ≡ r) × (k ≡ h)
+  same_build :
+      (r : Result (Unit {0}) BuildRefusal) (h : Held)
+      → BuiltFrom G r h
+      → (s : Result (Unit {0}) BuildRefusal) (k : Held)
+      → BuiltFrom G s k
+      → (s ≡ r) × (k ≡ h)
   same_build (Ok x) h b (Ok y) k c =
       (refl, ∥∥₁_elim c (Held-set k h) λ q. ∥∥₁_elim b (Held-set k h) λ p. q.3 ∙ one (built q.0 q.1 q.2) (built p.0 p.1 p.2) q.4 p.4 ∙ sym p.3)
-  same_build (Ok x) h b (Err e) k c = absurd (∥∥₁_elim b ⊥_prop λ p. one (refused e) (built p.0 p.1 p.2) c.1 p.4)
-  same_build (Err e) h b (Ok y) k c = absurd (∥∥₁_elim c ⊥_prop λ q. one (built q.0 q.1 q.2) (refused e) q.4 b.1)
-  same_build (Err e) h b (Err f) k c = (ap Err (one (refused f) (refused e) c.1 b.1), c.0 ∙ sym b.0)
+  same_build (Ok x) h b (Err e) k c = absurd (∥∥₁_elim b ⊥_prop λ p. one (refused (told e)) (built p.0 p.1 p.2) c.1 p.4)
+  same_build (Err e) h b (Ok y) k c = absurd (∥∥₁_elim c ⊥_prop λ q. one (built q.0 q.1 q.2) (refused (told e)) q.4 b.1)
+  same_build (Err e) h b (Err f) k c = (
+    ap Err (told_once f e (one (refused (told f)) (refused (told e)) c.1 b.1)),
+    c.0 ∙ sym b.0,
+  )
 
-  pub only_build : (r : Result (Unit {0}) Refusal) (h : Held) → BuiltFrom G r h → OnlyBuild G r h
+  pub only_build :
+      (r : Result (Unit {0}) BuildRefusal) (h : Held) → BuiltFrom G r h → OnlyBuild G r h
   only_build r h b = record { same = same_build r h b }

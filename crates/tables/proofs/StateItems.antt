@@ -6,28 +6,33 @@ use Rattle.std.proofs.lemmas.Option.{none-some}
 use Rattle.grammar.specs.Grammar.{Grammar}
 use Rattle.grammar.specs.ItemLists.{items_of}
 use Rattle.grammar.specs.StateLists.{has_at, state_at}
-use Rattle.grammar.specs.States.{Automaton, Crowded, Numbered}
+use Rattle.grammar.specs.States.{Automaton, Numbered}
 use Rattle.grammar.specs.Outcome.{LowestUseless}
-use Rattle.grammar.specs.declared.refusal.Refusal.{Refusal}
+use Rattle.grammar.specs.Refusals.{Told}
 use Rattle.grammar.proofs.NotCrowded.{not_crowded}
 use Rattle.grammar.proofs.OneNumbering.{one_numbering}
+use Rattle.tables.specs.declared.build_refusal.BuildRefusal.{BuildRefusal}
 use Rattle.tables.specs.declared.items.Items.{Items}
 use Rattle.tables.specs.declared.rules.Rules.{Rules}
 use Rattle.tables.specs.declared.states.States.{States}
 use Rattle.tables.specs.Admitted.{Admitted, Unread, off_limits, out_of_range}
 use Rattle.tables.specs.AllUseful.{AllUseful}
 use Rattle.tables.specs.Arrays.{grammar_of, automaton}
-use Rattle.tables.specs.Numbering.{UsefulNumbering}
+use Rattle.tables.specs.Numbering.{UsefulNumbering, TooManyStates}
 use Rattle.tables.specs.StateItems.{Numbering, NoState, OfState}
 use Rattle.tables.proofs.Outcomes.{sound_rules}
 use Rattle.tables.proofs.RuleArrays.{within_rules}
 
 -- A sheet that is not read has no numbering.
-not_numbered : (G : Grammar) {e : Refusal} {n : ℕ} {A : Automaton} → Unread G e → Numbering G n A → ⊥
+not_numbered : (G : Grammar) {t : Told} {n : ℕ} {A : Automaton} → Unread G t → Numbering G n A → ⊥
 not_numbered G (off_limits h) N = h N.within
 not_numbered G (out_of_range {r = r} w l) N = l.out (N.sound.in_range r l.is_rule)
 
-pub unread_none : (G : Grammar) (s : ℕ) (r : Result Rules Refusal) → Admitted G r → None ≡ result_ok r → NoState G s
+pub unread_none :
+    (G : Grammar) (s : ℕ) (r : Result Rules BuildRefusal)
+    → Admitted G r
+    → None ≡ result_ok r
+    → NoState G s
 unread_none G s (Ok R) a h = absurd (none-some _ h)
 unread_none G s (Err e) a h = record { past = λ n A N. absurd (not_numbered G a N) }
 
@@ -37,7 +42,11 @@ module _ (R : Rules) where
     useless_none None u h = absurd (true≢false h)
     useless_none (Some X) l h = record { past = λ n A N. absurd (N.sound.useful X l.useless) }
 
-    pub crowded_none : (r : Result States Refusal) → MatchResult r (λ S. Numbered (grammar_of R) S.count (automaton R S)) (λ e. (e ≡ Refusal.States) × Crowded (grammar_of R)) → None ≡ result_ok r → NoState (grammar_of R) s
+    pub crowded_none :
+        (r : Result States BuildRefusal)
+        → MatchResult r (λ S. Numbered (grammar_of R) S.count (automaton R S)) (TooManyStates R)
+        → None ≡ result_ok r
+        → NoState (grammar_of R) s
     crowded_none (Ok S) m h = absurd (none-some _ h)
     crowded_none (Err e) m h = record { past = λ n A N. absurd (not_crowded (grammar_of R) n A N.few N.numbered m.1) }
 
@@ -45,7 +54,12 @@ module _ (R : Rules) where
   all_useful None u h = u
   all_useful (Some X) l h = absurd (false≢true h)
 
-  pub useful_numbering : (S : States) (r : Result States Refusal) → MatchResult r (λ S. Numbered (grammar_of R) S.count (automaton R S)) (λ e. (e ≡ Refusal.States) × Crowded (grammar_of R)) → Some S ≡ result_ok r → AllUseful (grammar_of R) → UsefulNumbering R S
+  pub useful_numbering :
+      (S : States) (r : Result States BuildRefusal)
+      → MatchResult r (λ S. Numbered (grammar_of R) S.count (automaton R S)) (TooManyStates R)
+      → Some S ≡ result_ok r
+      → AllUseful (grammar_of R)
+      → UsefulNumbering R S
   useful_numbering S (Ok T) m h u = record { useful = u; numbered = subst (λ o. MatchOption o ⊥ (λ U. Numbered (grammar_of R) U.count (automaton R U))) (sym h) m }
   useful_numbering S (Err e) m h u = absurd (none-some _ (sym h))
 

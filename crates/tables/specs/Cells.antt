@@ -1,12 +1,13 @@
 -- Cells by state and word.
 use Rattle.std.specs.Prelude.{◌≡◌, ℕ, ◌<◌, ◌≤◌, ◌↔◌, List, [], length, None, Ok, Err, Result, slice_index_or, Option, Some}
 use Rattle.grammar.specs.Cells.{Holds, FirstConflict, Exact}
+use Rattle.grammar.specs.Refusals.{conflict}
 use Rattle.grammar.specs.declared.action.Action.{Action}
-use Rattle.grammar.specs.declared.refusal.Refusal.{Refusal}
-use Rattle.grammar.specs.declared.refusal.Refusal.TheVariants.{Layout, Form, Limits, Range, Useless, States as TooManyStates, Conflict, Blank, NoDesigner, Status, FullLine, NoWord, Reductions, NoAction, FullBook}
+use Rattle.tables.specs.declared.build_refusal.BuildRefusal.{BuildRefusal}
 use Rattle.tables.specs.declared.rules.Rules.{Rules}
 use Rattle.tables.specs.declared.states.States.{States}
 use Rattle.tables.specs.Arrays.{grammar_of, automaton}
+use Rattle.tables.specs.BuildRefusals.{told}
 
 -- The cell of a state and a word; none outside the lists.
 abbrev pub cell_at : List (List (Option Action)) → ℕ → ℕ → Option Action
@@ -18,25 +19,15 @@ pub record RowsUpto (R : Rules) (S : States) (n : ℕ) (cells : List (List (Opti
   pub exact : (s w : ℕ) (a : Action) → s < n → (cell_at cells s w ≡ Some a) ↔ Holds (grammar_of R) (automaton R S) s w a
   pub rest : (s w : ℕ) → n ≤ s → cell_at cells s w ≡ None
 
--- A refusal that is the first conflict.
-abbrev pub Conflicting : Rules → States → Refusal → Type 0
-Conflicting R S (Layout r) = ⊥
-Conflicting R S (Form p) = ⊥
-Conflicting R S Limits = ⊥
-Conflicting R S (Range r) = ⊥
-Conflicting R S (Useless X) = ⊥
-Conflicting R S TooManyStates = ⊥
-Conflicting R S Blank = ⊥
-Conflicting R S NoDesigner = ⊥
-Conflicting R S Status = ⊥
-Conflicting R S FullLine = ⊥
-Conflicting R S NoWord = ⊥
-Conflicting R S Reductions = ⊥
-Conflicting R S NoAction = ⊥
-Conflicting R S FullBook = ⊥
-Conflicting R S (Conflict s w a b) = FirstConflict (grammar_of R) (automaton R S) s w a b
+-- What is told is the first conflict.
+abbrev pub Conflicting : Rules → States → BuildRefusal → Type 0
+Conflicting R S e =
+    (s w : ℕ)
+    × (a b : Action)
+    × (told e ≡ conflict s w a b)
+    × FirstConflict (grammar_of R) (automaton R S) s w a b
 
 -- Filling gives the exact cells, or tells the first conflict.
-abbrev pub Filled : Rules → States → Result (List (List (Option Action))) Refusal → Type 0
+abbrev pub Filled : Rules → States → Result (List (List (Option Action))) BuildRefusal → Type 0
 Filled R S (Ok cells) = Exact (grammar_of R) (automaton R S) (cell_at cells)
 Filled R S (Err e) = Conflicting R S e

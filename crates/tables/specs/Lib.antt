@@ -1,3 +1,4 @@
+pub mod BuildRefusals
 pub mod Arrays
 pub mod CodeMarks
 pub mod DeriveWords

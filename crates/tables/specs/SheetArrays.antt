@@ -2,8 +2,9 @@
 use Rattle.std.specs.Prelude.{◌≡◌, ℕ, suc, ◌+◌, ◌*◌, ◌<◌, ◌≤◌, List, length, Ok, Err, Result, slice_index}
 use Rattle.grammar.specs.Grammar.{Grammar, left_side, right_side}
 use Rattle.grammar.specs.Outcome.{Within, InRange}
-use Rattle.grammar.specs.declared.refusal.Refusal.{Refusal}
+use Rattle.tables.specs.declared.build_refusal.BuildRefusal.{BuildRefusal}
 use Rattle.tables.specs.Admitted.{Unread}
+use Rattle.tables.specs.BuildRefusals.{told}
 
 -- The lengths of the right sides of the rules below n, each at most 8, and 0 from there on.
 pub record Lengths (G : Grammar) (n : ℕ) (size : List ℕ) : Type 0 where
@@ -13,9 +14,9 @@ pub record Lengths (G : Grammar) (n : ℕ) (size : List ℕ) : Type 0 where
   pub rest : (r : ℕ) → n ≤ r → slice_index size r ≡ 0
 
 -- The lengths of all right sides, or the sheet is not read.
-abbrev pub Measured : Grammar → Result (List ℕ) Refusal → Type 0
+abbrev pub Measured : Grammar → Result (List ℕ) BuildRefusal → Type 0
 Measured G (Ok size) = Within G × Lengths G (suc (length G.rules)) size
-Measured G (Err e) = Unread G e
+Measured G (Err e) = Unread G (told e)
 
 -- Both sides of the rules below n, all in range, and 0 from there on.
 pub record Sides (G : Grammar) (n : ℕ) (left right : List ℕ) : Type 0 where

@@ -4,10 +4,11 @@ ghost use Rattle.tables.specs.Cells.{Filled};
 ghost use Rattle.tables.specs.Lookaheads.{Lookaheads};
 ghost use Rattle.tables.specs.RowMeaning.{RowUpto};
 
+use super::build_refusal::BuildRefusal;
 use super::machine::Machine;
 use super::row::Row;
 use gather::WordSet;
-use grammar::{Action, Refusal};
+use grammar::Action;
 
 // The loops over rules and words go by number: the machine is asked by both, and the cells tell both.
 
@@ -50,7 +51,7 @@ fn fill_row(machine: &Machine, lookaheads: &[[Option<WordSet>; 97]; 96], state: 
 pub(crate) fn fill(
     machine: &Machine,
     lookaheads: &[[Option<WordSet>; 97]; 96],
-) -> Result<[[Option<Action>; 64]; 96], Refusal>
+) -> Result<[[Option<Action>; 64]; 96], BuildRefusal>
     requires { Lookaheads machine.now.rules machine.now.states lookaheads.now }
     ensures { Filled machine.now.rules machine.now.states result }
 {

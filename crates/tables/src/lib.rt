@@ -1,6 +1,7 @@
 // From a rule sheet to its LALR(1) tables, stage by stage.
 #![tactic(auto)]
 
+mod build_refusal;
 mod cells;
 mod closure;
 mod conflict;
@@ -28,5 +29,6 @@ mod step;
 mod tables;
 mod useful;
 
+pub use build_refusal::BuildRefusal;
 pub use items::{Items, items_of};
 pub use tables::Tables;

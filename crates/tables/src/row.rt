@@ -1,11 +1,14 @@
 // The cells of one state as they are filled, by rising rule.
 ghost use Rattle.std.specs.Prelude.{◌≡◌, ◌<◌, ◌≤◌, IfErr, IfOk};
+ghost use Rattle.grammar.specs.Refusals.{conflict};
+ghost use Rattle.tables.specs.BuildRefusals.{told};
 ghost use Rattle.tables.specs.Rows.{entered, reduced};
 ghost use Rattle.tables.specs.declared.conflict.Conflict.{Conflict};
 
+use super::build_refusal::BuildRefusal;
 use super::conflict::{Conflict, lowest};
 use gather::WordSet;
-use grammar::{Action, Refusal};
+use grammar::Action;
 
 // By word: the first action of each cell. And the lowest word with two, with its first two.
 #[derive(Clone, Copy)]
@@ -49,13 +52,16 @@ impl Row {
     }
 
     // The cells, or the conflict, as one of this state.
-    pub(crate) fn settled(self, state: u8) -> Result<[Option<Action>; 64], Refusal>
+    pub(crate) fn settled(self, state: u8) -> Result<[Option<Action>; 64], BuildRefusal>
         ensures cells { IfOk result (λ cells. (self.conflict ≡ None) × (cells ≡ self.cells)) }
-        ensures conflict { IfErr result (λ e. (k : Conflict) × (self.conflict ≡ Some k) × (e ≡ Refusal.Conflict state k.word k.first k.second)) }
+        ensures conflict { IfErr result (λ e.
+            (k : Conflict)
+            × (self.conflict ≡ Some k)
+            × (told e ≡ conflict state k.word k.first k.second)) }
     {
         match self.conflict {
             None => Ok(self.cells),
-            Some(conflict) => Err(Refusal::Conflict {
+            Some(conflict) => Err(BuildRefusal::Conflict {
                 state,
                 word: conflict.word,
                 first: conflict.first,

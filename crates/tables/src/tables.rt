@@ -7,6 +7,7 @@ ghost use Rattle.tables.specs.WordSets.{SetsOf};
 ghost use Rattle.tables.specs.Held.{Exactly, Held};
 ghost use Rattle.std.specs.Prelude.{◌≡◌};
 
+use super::build_refusal::BuildRefusal;
 use super::cells::fill;
 use super::full::Full;
 use super::limits::read;
@@ -17,7 +18,7 @@ use super::rules::Rules;
 use super::states::States;
 use super::useful::useless;
 use gather::WordSet;
-use grammar::{Action, Refusal};
+use grammar::Action;
 use sheet::RuleSheet;
 
 // No model, since it would hide the ghost field `exact` of what is held, on which the crates above rest.
@@ -31,11 +32,11 @@ pub struct Tables {
 // Numbers the states of the rules.
 #[inline(never)]
 #[tactic(auto, using(crate::proofs::Outcomes::useless_told, crate::proofs::Outcomes::crowded_told))]
-fn numbered(machine: &mut Machine) -> Result<(), Refusal>
+fn numbered(machine: &mut Machine) -> Result<(), BuildRefusal>
     ensures { NumberedFrom (grammar_of machine.old.rules) result machine.new }
 {
     if let Some(code) = useless(&machine.rules) {
-        return Err(Refusal::Useless {
+        return Err(BuildRefusal::Useless {
             nonterminal: u16::from(code),
         });
     }
@@ -48,7 +49,7 @@ fn numbered(machine: &mut Machine) -> Result<(), Refusal>
 fn cells_of(
     machine: &Machine,
     follow: &[WordSet; 2304],
-) -> Result<[[Option<Action>; 64]; 96], Refusal>
+) -> Result<[[Option<Action>; 64]; 96], BuildRefusal>
     requires { SetsOf (FollowAt machine.now.rules machine.now.states) 2304 follow.now }
     ensures { Filled machine.now.rules machine.now.states result }
 {
@@ -68,7 +69,7 @@ fn hold(full: &mut Option<Full>, machine: Machine, cells: [[Option<Action>; 64];
 
 // Makes the tables of rules within the limits and in range.
 #[inline(never)]
-fn tabled(rules: Rules, full: &mut Option<Full>) -> Result<(), Refusal>
+fn tabled(rules: Rules, full: &mut Option<Full>) -> Result<(), BuildRefusal>
     requires { full.old ≡ None }
     ensures { Tabled (grammar_of rules) result full.new }
 {
@@ -93,7 +94,7 @@ impl Tables {
 
     // Builds the tables of any sheet, whatever they held before; refused, they are blank.
     #[tactic(auto, using(crate::proofs::Admissions::unread_told, crate::proofs::Outcomes::tabled_built, crate::proofs::OnlyBuilds::only_build))]
-    pub fn build<S: RuleSheet>(&mut self, sheet: &S) -> Result<(), Refusal>
+    pub fn build<S: RuleSheet>(&mut self, sheet: &S) -> Result<(), BuildRefusal>
         ensures is { BuiltFrom (S.RuleSheet.meaning sheet.now) result (held self.new) }
         ensures alone { OnlyBuild (S.RuleSheet.meaning sheet.now) result (held self.new) }
     {

@@ -1,5 +1,6 @@
-use Rattle.std.proofs.Common.{◌≡◌, suc, ◌+◌, ◌-◌, ◌<◌, length, rules, get_or, ap, subst, arith}
+use Rattle.std.proofs.Common.{◌≡◌, suc, ◌+◌, ◌-◌, ◌<◌, length, rules, get_or, ap, subst, arith, refl}
 use Rattle.tables.specs.Admitted.{Unread, out_of_range}
+use Rattle.tables.specs.BuildRefusals.{told}
 use Rattle.tables.specs.SheetArrays.{Sides, Lengths}
 use Rattle.tables.proofs.SheetArrays.{left_read}
 use Rattle.tables.proofs.SheetRules.{sides_first, sides_more, lowest, kept, read_grammar}
@@ -12,13 +13,18 @@ pub returns-then-side-terminals : goal.returns-then-side-terminals
 returns-then-side-terminals g c =
     let G = g.S.RuleSheet.meaning c.args.sheet.now in
     let r = c.loop-rule.rule in
-    let is = left_read G r c.unwrap_or-side.result c.left.result (omega arith) c.unwrap_or-side.ensures c.left.ensures in
+    let is = left_read G r c.in-Some.side c.left.result (omega arith) (rw c.in-Some.is refl) c.left.ensures in
     out_of_range c.requires.within (lowest G r c.loop-rule.left c.loop-rule.right c.loop-rule.invariant (omega arith) (omega arith) λ range. omega (arith, range.left.low, range.left.high, is))
 
 pub returns-in_err-codes : goal.returns-in_err-codes
 returns-in_err-codes g c =
     let G = g.S.RuleSheet.meaning c.args.sheet.now in
-    let told : Unread G c.in_err-codes.field-0.0 = rw c.in_err-codes.ensures.0 (out_of_range c.requires.within (lowest G c.loop-rule.rule c.loop-rule.left c.loop-rule.right c.loop-rule.invariant (omega arith) (omega arith) λ range. c.in_err-codes.ensures.1 range.right)) in
+    let s = c.loop-rule in
+    let off =
+    lowest G s.rule s.left s.right s.invariant (omega arith) (omega arith) λ range.
+    c.in_err-codes.ensures.1 range.right in
+    let unread : Unread G (told c.in_err-codes.field-0.0) =
+    rw c.in_err-codes.ensures.0 (out_of_range c.requires.within off) in
     search rules
 
 pub loop-rule-preserved : goal.loop-rule-preserved
@@ -26,9 +32,9 @@ loop-rule-preserved g c =
     let G = g.S.RuleSheet.meaning c.args.sheet.now in
     let r = c.loop-rule.rule in
     let b : r < suc (length G.rules) = omega arith in
-    let is = left_read G r c.unwrap_or-side.result c.left.result (omega arith) c.unwrap_or-side.ensures c.left.ensures in
+    let is = left_read G r c.in-Some.side c.left.result (omega arith) (rw c.in-Some.is refl) c.left.ensures in
     let same = ap (λ i. get_or c.args.size i 0) c.from-r.ensures in
-    rw c.from-r.ensures (sides_more G r c.unwrap_or-side.result _ c.loop-rule.left c.loop-rule.right c.codes.new.right c.loop-rule.invariant (omega arith) (omega (arith, c.requires.within.counts.rules)) is
+    rw c.from-r.ensures (sides_more G r c.in-Some.side _ c.loop-rule.left c.loop-rule.right c.codes.new.right c.loop-rule.invariant (omega arith) (omega (arith, c.requires.within.counts.rules)) is
     (record { low = omega arith; high = omega arith })
     (omega (arith, c.requires.lengths.short r b, same)) (omega (arith, c.requires.lengths.below r b, same)) c.in_ok-codes.ensures.0 c.in_ok-codes.ensures.1)
 

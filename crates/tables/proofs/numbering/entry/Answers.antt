@@ -1,8 +1,10 @@
-use Rattle.std.proofs.Common.{◌≡◌, false, get_or, refl, ◌∙◌, rules, arith}
+use Rattle.std.proofs.Common.{◌≡◌, false, get_or, refl, ap, ◌∙◌, rules, arith}
 use Rattle.std.proofs.lemmas.Bool.{both_ways}
-use Rattle.grammar.specs.declared.refusal.Refusal.TheVariants.{States}
+use Rattle.grammar.specs.Refusals.{states}
 use Rattle.grammar.specs.States.{Crowded}
+use Rattle.tables.specs.declared.build_refusal.BuildRefusal.TheVariants.{States}
 use Rattle.tables.specs.Arrays.{grammar_of}
+use Rattle.tables.specs.BuildRefusals.{told}
 use Rattle.tables.proofs.StateArrays.{placed_keeps, is_code, step_more, step_none, step_full}
 use Rattle.tables.proofs.numbering.entry.Goals as goal
 use Rattle.tables.proofs.numbering.entry.Goals.{then-ahead-from+in_ok-to, else-ahead-from}
@@ -16,6 +18,7 @@ returns-in_err-to c =
     let value = rw c.in_err-to.ensures.ok_part at c.in_err-to.ensures.value in
     let crowded : Crowded (grammar_of R) = step_full R v.sofar v.state v.is (is_code R X c.requires.code.0 c.requires.code.1) c.complete.array_long (c.requires.waiting.from X (rw c.from.ensures at c.if-ahead-from.true)) c.advance-items.ensures c.complete.ensures placed refl in
     let is : c.in_err-to.field-0.0 ≡ States = cc in
+    let tells : told c.in_err-to.field-0.0 ≡ states = ap told is in
     search rules
 
 pub returns : goal.returns

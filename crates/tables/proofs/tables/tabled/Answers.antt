@@ -1,6 +1,7 @@
 use Rattle.std.proofs.Common.{subst}
 use Rattle.std.proofs.lemmas.Result.{err_from_is_err_and}
 use Rattle.grammar.specs.Outcome.{Outcome, refused}
+use Rattle.tables.specs.BuildRefusals.{told}
 use Rattle.tables.proofs.Outcomes.{exact_tables, conflict_told}
 use Rattle.tables.proofs.tables.tabled.Goals as goal
 
@@ -9,7 +10,12 @@ returns-in_err-cells c =
     let m = c.numbered.new.machine in
     let n = c.in_ok-numbered.ensures in
     let p = err_from_is_err_and c.from_residual-in_err-cells.result c.from_residual-in_err-cells.ensures.1 in
-    rw (p.1, p.2) (c.requires, subst (λ G. Outcome G (refused c.in_err-cells.field-0.0)) n.0 (conflict_told m.rules m.states n.1 c.in_err-cells.field-0.0 c.in_err-cells.ensures))
+    let e = c.in_err-cells.field-0.0 in
+    rw (p.1, p.2) (
+      c.requires,
+      subst (λ G. Outcome G (refused (told e))) n.0
+          (conflict_told m.rules m.states n.1 e c.in_err-cells.ensures),
+    )
 
 pub hold-requires : goal.hold-requires
 hold-requires c =
