@@ -28,10 +28,11 @@ use Rattle.plan.specs.Steps.{Stepped, placed, refusing, slipped, judge_step}
 use Rattle.plan.specs.Shows.{account_line, Shows, Stands}
 use Rattle.plan.proofs.Continuing.{TablesOf, Continues}
 use Rattle.plan.proofs.Unreadiness.{not_ready, high_designer, low_designer}
+use Rattle.plan.proofs.TableRuns.{few_told, few_holding}
 use Rattle.plan.proofs.ShownTurns.{line_shown, shown_same, shown_line}
 
 -- Not ready to be judged.
-judge_unready : {G : Grammar} {A : Automaton} (d : ℕ) {l : AccountLine} {c : ℕ} → Unready false d l c → RightJudge G A d l (refused c)
+judge_unready : {G : Grammar} {goto : ℕ → ℕ → Option ℕ} {cells : ℕ → ℕ → Option Action} (d : ℕ) {l : AccountLine} {c : ℕ} → Unready false d l c → RightJudge G goto cells d l (refused c)
 judge_unready d {l} u = record { good = (λ y. absurd y, λ y. not_ready u y.0); slip = λ p ds e y. cc; cause = λ n e. unready (subst (λ i. Unready false d l i) (cc) u) }
 
 module _ {G : Grammar} {A : Automaton} (v : Valid G) (L : Laws G A) (cells : ℕ → ℕ → Option Action) (exact : Exact G A cells) (d : ℕ) where
@@ -40,25 +41,25 @@ module _ {G : Grammar} {A : Automaton} (v : Valid G) (L : Laws G A) (cells : ℕ
     Seen = record { judged = j; words = l.words }
 
     -- The cause, by how the machine ends at the end mark.
-    judge_cause : (end : Ended) → judge_line G A cells l ≡ after_judging l end → (c : ℕ) → judge_line G A cells l ≡ Turned.refused c → JudgeCause G A d Seen c
+    judge_cause : (end : Ended) → judge_line G A cells l ≡ after_judging l end → (c : ℕ) → judge_line G A cells l ≡ Turned.refused c → JudgeCause G A.goto cells d Seen c
     judge_cause stuck w c e =
         let st = standing G A cells exact o in
-        subst (λ i. JudgeCause G A d Seen i) (cc) (no_sentence ready (judged_14_few v L cells exact l st w) (judged_14 v L cells exact l st w))
+        subst (λ i. JudgeCause G A.goto cells d Seen i) (cc) (no_sentence ready (few_told G A cells exact (judged_14_few v L cells exact l st w)) (judged_14 v L cells exact l st w))
     judge_cause (shifted τ ps) w c e =
         let st = standing G A cells exact o in
-        subst (λ i. JudgeCause G A d Seen i) (cc) (no_sentence ready (judged_14_few v L cells exact l st w) (judged_14 v L cells exact l st w))
-    judge_cause full w c e = subst (λ i. JudgeCause G A d Seen i) (cc) (too_many ready (judged_13_many v L cells exact l (standing G A cells exact o) w))
+        subst (λ i. JudgeCause G A.goto cells d Seen i) (cc) (no_sentence ready (few_told G A cells exact (judged_14_few v L cells exact l st w)) (judged_14 v L cells exact l st w))
+    judge_cause full w c e = subst (λ i. JudgeCause G A.goto cells d Seen i) (cc) (too_many ready λ f. judged_13_many v L cells exact l (standing G A cells exact o) w (few_holding G A cells exact f))
     judge_cause (accepted τ ps) w c e = absurd (not_after (sym e ∙ w))
 
-    judge_refused : (c : ℕ) → judge_line G A cells l ≡ Turned.refused c → RightJudge G A d Seen (refused c)
+    judge_refused : (c : ℕ) → judge_line G A cells l ≡ Turned.refused c → RightJudge G A.goto cells d Seen (refused c)
     judge_refused c e =
         record {
           good = (λ y. absurd y, λ y. not_after (sym e ∙ (short_judged v L cells exact l (standing G A cells exact o) y.1).1));
           slip = λ p ds x y. cc;
-          cause = λ n x. subst (λ i. JudgeCause G A d Seen i) (cc) (judge_cause (runs G A cells (768 - length l.rules) 0 l.states) refl c e);
+          cause = λ n x. subst (λ i. JudgeCause G A.goto cells d Seen i) (cc) (judge_cause (runs G A cells (768 - length l.rules) 0 l.states) refl c e);
         }
 
-    judge_good : (k : Line) → judge_line G A cells l ≡ after k → RightJudge G A d Seen (given (record { designer = d; words = length k.words; steps = length k.rules }))
+    judge_good : (k : Line) → judge_line G A cells l ≡ after k → RightJudge G A.goto cells d Seen (given (record { designer = d; words = length k.words; steps = length k.rules }))
     judge_good k e =
         let st = standing G A cells exact o in
         let steps : (ds : List ℕ) → Derives G ds l.words → length k.rules ≡ length ds = λ ds y. sym (ap length (one_derivation v L (conflict_free G A cells exact) l.words ds (reverse k.rules) y (judged_rules v L cells exact l st k e)) ∙ length-reverse k.rules) in
@@ -72,8 +73,8 @@ module _ (G : Grammar) (n : ℕ) (A : Automaton) (cells : ℕ → ℕ → Option
   abbrev Judged : Stepped SlipModel → Type 0
   Judged x = Shows G A cells (turns ++ judge d x.answer ∷ []) b₀ n₀ x.next list free
 
-  right : (x : Answer SlipModel) → RightJudge G A d (account_line (plan_line m d)) x → RightTurn G A n₀ (account turns) (judge d x)
-  right x r = subst (λ l. RightJudge G A d l x) (sym (line_shown G A cells s d)) r
+  right : (x : Answer SlipModel) → RightJudge G A.goto cells d (account_line (plan_line m d)) x → RightTurn G A.goto cells n₀ (account turns) (judge d x)
+  right x r = subst (λ l. RightJudge G A.goto cells d l x) (sym (line_shown G A cells s d)) r
 
   judged_line : Open G A cells (plan_line m d).line → Ready false d (account_line (plan_line m d)) → (t : Turned) → judge_line G A cells (plan_line m d).line ≡ t → Judged (placed m d (slipped d (judge_turned t)))
   judged_line o y (Turned.refused c) e = shown_same G A cells s (judge d (refused c)) (right _ (judge_refused T.given.valid (lawful_states G n A T.given.numbered) cells T.exact d (plan_line m d).line o (plan_line m d).judged y c e)) refl

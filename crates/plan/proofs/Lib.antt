@@ -1,5 +1,6 @@
 pub mod TurnLists
 pub mod EntryLists
+pub mod TableRuns
 pub mod Continuing
 pub mod ShownTurns
 pub mod Unreadiness

@@ -1,11 +1,11 @@
 -- The three promises, of whatever keeps the law.
-use Rattle.std.proofs.Common.{ℕ, List}
+use Rattle.std.proofs.Common.{ℕ, List, Option}
 use Rattle.grammar.specs.Grammar.{Grammar}
-use Rattle.grammar.specs.States.{Automaton}
+use Rattle.grammar.specs.declared.action.Action.{Action}
 use Rattle.plan.specs.Turns.{Turn, word, judge}
 use Rattle.plan.specs.Law.{Law, Promises}
 
-pub promises : {G : Grammar} {A : Automaton} {b₀ : List ℕ} {n₀ : ℕ} {turns : List Turn} {list : List ℕ} {free : ℕ} → Law G A b₀ n₀ turns list free → Promises G A b₀ n₀ turns list free
+pub promises : {G : Grammar} {goto : ℕ → ℕ → Option ℕ} {cells : ℕ → ℕ → Option Action} {b₀ : List ℕ} {n₀ : ℕ} {turns : List Turn} {list : List ℕ} {free : ℕ} → Law G goto cells b₀ n₀ turns list free → Promises G goto cells b₀ n₀ turns list free
 promises law =
     record {
       judged = λ before after d x e low status.

@@ -58,11 +58,11 @@ module _ (G : Grammar) (A : Automaton) (cells : ℕ → ℕ → Option Action) w
     pub line_shown : (d : ℕ) → line_of (account turns) d ≡ account_line (plan_line m d)
     line_shown d = ap (λ l. get_or l d empty_line) s.lines ∙ get_or-map account_line m.lines d fresh_plan_line
 
-    right_found : (t : Turn) → RightTurn G A n₀ (account turns) t → (before : List Turn) (u : Turn) → Found turns before t u → RightTurn G A n₀ (account before) u
-    right_found t r before u (last p q) = subst₂ (λ l x. RightTurn G A n₀ (account l) x) (sym p) (sym q) r
+    right_found : (t : Turn) → RightTurn G A.goto cells n₀ (account turns) t → (before : List Turn) (u : Turn) → Found turns before t u → RightTurn G A.goto cells n₀ (account before) u
+    right_found t r before u (last p q) = subst₂ (λ l x. RightTurn G A.goto cells n₀ (account l) x) (sym p) (sym q) r
     right_found t r before u (earlier after p) = s.law.right before after u p
 
-    shown_more : (t : Turn) → RightTurn G A n₀ (account turns) t → {m' : Model} {list' : List ℕ} {free' : ℕ} → length m'.lines ≡ 8 → ((d : ℕ) → StandsLine (plan_line m' d)) → Kept G (after_turn (account turns) t) b₀ n₀ m' list' free' → Shows G A cells (turns ++ t ∷ []) b₀ n₀ m' list' free'
+    shown_more : (t : Turn) → RightTurn G A.goto cells n₀ (account turns) t → {m' : Model} {list' : List ℕ} {free' : ℕ} → length m'.lines ≡ 8 → ((d : ℕ) → StandsLine (plan_line m' d)) → Kept G (after_turn (account turns) t) b₀ n₀ m' list' free' → Shows G A cells (turns ++ t ∷ []) b₀ n₀ m' list' free'
     shown_more t r {m'} {list'} {free'} e f k =
         let k' = subst (λ a. Kept G a b₀ n₀ m' list' free') (sym (account_more (account []) turns t)) k in
         record {
@@ -74,20 +74,20 @@ module _ (G : Grammar) (A : Automaton) (cells : ℕ → ℕ → Option Action) w
         }
 
     -- A turn that changes nothing.
-    pub shown_same : (t : Turn) → RightTurn G A n₀ (account turns) t → account turns ≡ after_turn (account turns) t → Shows G A cells (turns ++ t ∷ []) b₀ n₀ m list free
+    pub shown_same : (t : Turn) → RightTurn G A.goto cells n₀ (account turns) t → account turns ≡ after_turn (account turns) t → Shows G A cells (turns ++ t ∷ []) b₀ n₀ m list free
     shown_same t r e = shown_more t r s.eight s.stands (subst (λ a. Kept G a b₀ n₀ m list free) e (record { lines = s.lines; count = s.count; written = s.law.written }))
 
     lines_set : (d : ℕ) (l : PlanLine) → set (account turns).lines d (account_line l) ≡ map account_line (set m.lines d l)
     lines_set d l = ap (λ ls. set ls d (account_line l)) s.lines ∙ sym (map-set account_line m.lines d l)
 
     -- A turn that changes one line.
-    pub shown_line : (t : Turn) → RightTurn G A n₀ (account turns) t → (d : ℕ) (l : PlanLine) → StandsLine l → with_line (account turns) d (account_line l) ≡ after_turn (account turns) t → Shows G A cells (turns ++ t ∷ []) b₀ n₀ (with_plan_line m d l) list free
+    pub shown_line : (t : Turn) → RightTurn G A.goto cells n₀ (account turns) t → (d : ℕ) (l : PlanLine) → StandsLine l → with_line (account turns) d (account_line l) ≡ after_turn (account turns) t → Shows G A cells (turns ++ t ∷ []) b₀ n₀ (with_plan_line m d l) list free
     shown_line t r d l x e =
         shown_more t r (length-set m.lines d l ∙ s.eight) (set_holds StandsLine fresh_plan_line l x m.lines s.stands d)
         (subst (λ a. Kept G a b₀ n₀ (with_plan_line m d l) list free) e (record { lines = lines_set d l; count = s.count; written = s.law.written }))
 
     -- A turn that makes a line fresh and adds it to the booked ones.
-    pub shown_booked : (t : Turn) → RightTurn G A n₀ (account turns) t → (d c : ℕ) (b : BookedLine) {list' : List ℕ} {free' : ℕ} → record { lines = set (account turns).lines d empty_line; booked = (account turns).booked ++ b ∷ [] } ≡ after_turn (account turns) t → c ≡ min (length ((account turns).booked ++ b ∷ [])) (2 ^ 64 - 1) → Written G b₀ n₀ ((account turns).booked ++ b ∷ []) list' free' → Shows G A cells (turns ++ t ∷ []) b₀ n₀ (record { lines = set m.lines d fresh_plan_line; count = c }) list' free'
+    pub shown_booked : (t : Turn) → RightTurn G A.goto cells n₀ (account turns) t → (d c : ℕ) (b : BookedLine) {list' : List ℕ} {free' : ℕ} → record { lines = set (account turns).lines d empty_line; booked = (account turns).booked ++ b ∷ [] } ≡ after_turn (account turns) t → c ≡ min (length ((account turns).booked ++ b ∷ [])) (2 ^ 64 - 1) → Written G b₀ n₀ ((account turns).booked ++ b ∷ []) list' free' → Shows G A cells (turns ++ t ∷ []) b₀ n₀ (record { lines = set m.lines d fresh_plan_line; count = c }) list' free'
     shown_booked t r d c b {list'} {free'} e h w =
         shown_more t r (length-set m.lines d fresh_plan_line ∙ s.eight) (set_holds StandsLine fresh_plan_line fresh_plan_line fresh m.lines s.stands d)
         (subst (λ a. Kept G a b₀ n₀ (record { lines = set m.lines d fresh_plan_line; count = c }) list' free') e (record { lines = lines_set d fresh_plan_line; count = h; written = w }))

@@ -29,6 +29,7 @@ use Rattle.plan.specs.Steps.{Stepped, placed, refusing, word_step}
 use Rattle.plan.specs.Shows.{account_line, Shows, Stands}
 use Rattle.plan.proofs.Continuing.{TablesOf, Continues}
 use Rattle.plan.proofs.Unreadiness.{not_ready, high_designer, low_designer}
+use Rattle.plan.proofs.TableRuns.{run_told, run_holding, few_told, few_holding}
 use Rattle.plan.proofs.ShownTurns.{line_shown, shown_same, shown_line}
 
 -- No word that the test refuses is a terminal, and each other is.
@@ -41,36 +42,36 @@ test_passes G w e =
     record { low = leb-true 1 w y.0; high = leb-true w G.terminals y.1 }
 
 -- Not ready for a word.
-word_unready : {G : Grammar} {A : Automaton} (d w : ℕ) {l : AccountLine} {c : ℕ} → Unready false d l c → RightWord G A d w l (refused c)
+word_unready : {G : Grammar} {goto : ℕ → ℕ → Option ℕ} {cells : ℕ → ℕ → Option Action} (d w : ℕ) {l : AccountLine} {c : ℕ} → Unready false d l c → RightWord G goto cells d w l (refused c)
 word_unready d w {l} u = record { taken = (λ y. absurd y, λ y. not_ready u y.0); count = λ n e. cc; cause = λ n e. unready (subst (λ i. Unready false d l i) (cc) u) }
 
 module _ {G : Grammar} {A : Automaton} (v : Valid G) (L : Laws G A) (p : AllProductive G) (cells : ℕ → ℕ → Option Action) (exact : Exact G A cells) (d w : ℕ) (l : Line) (o : Open G A cells l) (j : Bool) (ready : Ready false d (record { judged = j; words = l.words })) where
   abbrev Seen : AccountLine
   Seen = record { judged = j; words = l.words }
 
-  cause_14 : length l.words < 256 → IsTerminal G w → take_word G A cells l w ≡ Turned.refused 14 → WordCause G A d w Seen 14
-  cause_14 h i e = let st = standing G A cells exact o in no_sentence ready h i (word_14_few v L cells exact l st w e) (word_14 v L cells exact l st w e)
+  cause_14 : length l.words < 256 → IsTerminal G w → take_word G A cells l w ≡ Turned.refused 14 → WordCause G A.goto cells d w Seen 14
+  cause_14 h i e = let st = standing G A cells exact o in no_sentence ready h i (few_told G A cells exact (word_14_few v L cells exact l st w e)) (word_14 v L cells exact l st w e)
 
   -- The cause, by the tests and by how the machine ends at the word.
-  word_cause : (a b : Bool) (end : Ended) → leb 256 (length l.words) ≡ a → not (is_terminal G w) ≡ b → take_word G A cells l w ≡ cond a (Turned.refused 11) (cond b (Turned.refused 12) (after_word l w end)) → (c : ℕ) → take_word G A cells l w ≡ Turned.refused c → WordCause G A d w Seen c
-  word_cause true b end f g x c e = subst (λ i. WordCause G A d w Seen i) (cc) (line_full ready (leb-true 256 (length l.words) f))
-  word_cause false true end f g x c e = subst (λ i. WordCause G A d w Seen i) (cc) (no_terminal ready (leb-false 256 (length l.words) f) (test_refuses G w g))
-  word_cause false false stuck f g x c e = subst (λ i. WordCause G A d w Seen i) (cc) (cause_14 (leb-false 256 (length l.words) f) (test_passes G w g) x)
-  word_cause false false (accepted τ ps) f g x c e = subst (λ i. WordCause G A d w Seen i) (cc) (cause_14 (leb-false 256 (length l.words) f) (test_passes G w g) x)
-  word_cause false false full f g x c e = subst (λ i. WordCause G A d w Seen i) (cc) (too_many ready (leb-false 256 (length l.words) f) (test_passes G w g) (word_13 v L cells exact l (standing G A cells exact o) w x))
+  word_cause : (a b : Bool) (end : Ended) → leb 256 (length l.words) ≡ a → not (is_terminal G w) ≡ b → take_word G A cells l w ≡ cond a (Turned.refused 11) (cond b (Turned.refused 12) (after_word l w end)) → (c : ℕ) → take_word G A cells l w ≡ Turned.refused c → WordCause G A.goto cells d w Seen c
+  word_cause true b end f g x c e = subst (λ i. WordCause G A.goto cells d w Seen i) (cc) (line_full ready (leb-true 256 (length l.words) f))
+  word_cause false true end f g x c e = subst (λ i. WordCause G A.goto cells d w Seen i) (cc) (no_terminal ready (leb-false 256 (length l.words) f) (test_refuses G w g))
+  word_cause false false stuck f g x c e = subst (λ i. WordCause G A.goto cells d w Seen i) (cc) (cause_14 (leb-false 256 (length l.words) f) (test_passes G w g) x)
+  word_cause false false (accepted τ ps) f g x c e = subst (λ i. WordCause G A.goto cells d w Seen i) (cc) (cause_14 (leb-false 256 (length l.words) f) (test_passes G w g) x)
+  word_cause false false full f g x c e = subst (λ i. WordCause G A.goto cells d w Seen i) (cc) (too_many ready (leb-false 256 (length l.words) f) (test_passes G w g) λ f. word_13 v L cells exact l (standing G A cells exact o) w x (few_holding G A cells exact f))
   word_cause false false (shifted τ ps) f g x c e = absurd (not_after (sym e ∙ x))
 
-  word_refused : (c : ℕ) → take_word G A cells l w ≡ Turned.refused c → RightWord G A d w Seen (refused c)
+  word_refused : (c : ℕ) → take_word G A cells l w ≡ Turned.refused c → RightWord G A.goto cells d w Seen (refused c)
   word_refused c e =
       record {
-        taken = (λ y. absurd y, λ y. not_after (sym e ∙ (begins_taken v L cells exact l w (standing G A cells exact o) y.1 y.2 y.3).1));
+        taken = (λ y. absurd y, λ y. not_after (sym e ∙ (begins_taken v L cells exact l w (standing G A cells exact o) y.1 (few_holding G A cells exact y.2) y.3).1));
         count = λ n x. cc;
-        cause = λ n x. subst (λ i. WordCause G A d w Seen i) (cc) (word_cause (leb 256 (length l.words)) (not (is_terminal G w)) (runs G A cells (768 - length l.rules) w l.states) refl refl refl c e);
+        cause = λ n x. subst (λ i. WordCause G A.goto cells d w Seen i) (cc) (word_cause (leb 256 (length l.words)) (not (is_terminal G w)) (runs G A cells (768 - length l.rules) w l.states) refl refl refl c e);
       }
 
   module _ (k : Line) (e : take_word G A cells l w ≡ after k) where
     -- The reductions of the turn are what the line has noted more.
-    counted : Reductions G A l.words w (length k.rules - length l.rules)
+    counted : Reductions G A.goto cells l.words w (length k.rules - length l.rules)
     counted =
         let st = standing G A cells exact o in
         let y = word_rules cells exact l k w e in
@@ -78,22 +79,22 @@ module _ {G : Grammar} {A : Automaton} (v : Valid G) (L : Laws G A) (p : AllProd
         record {
           rules = l.rules;
           states = l.states;
-          run = subst (λ i. Run G A (0 ∷ []) i l.rules l.states []) (append-nil l.words) (st.run []);
+          run = run_told G A cells exact (subst (λ i. Run G A (0 ∷ []) i l.rules l.states []) (append-nil l.words) (st.run []));
           rules_on = y.rules;
           states_on = k.states;
-          run_on = y.run;
+          run_on = run_told G A cells exact y.run;
           count = omega (arith, long);
           every = λ ps qs σ τ r q.
-              let q' : Run G A (0 ∷ []) k.words qs τ [] = subst (λ ws. Run G A (0 ∷ []) ws qs τ []) (sym (words_after G A cells l k w e)) q in
-              omega (arith, long, rules_counted cells exact l st r, rules_counted cells exact k (standing G A cells exact (taken w o e)) q');
+              let q' : Run G A (0 ∷ []) k.words qs τ [] = subst (λ ws. Run G A (0 ∷ []) ws qs τ []) (sym (words_after G A cells l k w e)) (run_holding G A cells exact q) in
+              omega (arith, long, rules_counted cells exact l st (run_holding G A cells exact r), rules_counted cells exact k (standing G A cells exact (taken w o e)) q');
         }
 
-    word_taken : RightWord G A d w Seen (given (length k.rules - length l.rules))
+    word_taken : RightWord G A.goto cells d w Seen (given (length k.rules - length l.rules))
     word_taken =
         let few : length l.words < 256 = omega (arith, (standing G A cells exact (taken w o e)).few_words, ap length (words_after G A cells l k w e), length-append l.words (w ∷ [])) in
         record {
-          taken = (λ y. (ready, few, taken_few cells exact l k w o e, taken_begins v L p cells exact l k w o e), λ y. tt);
-          count = λ n x. subst (λ i. Reductions G A l.words w i) (cc) counted;
+          taken = (λ y. (ready, few, few_told G A cells exact (taken_few cells exact l k w o e), taken_begins v L p cells exact l k w o e), λ y. tt);
+          count = λ n x. subst (λ i. Reductions G A.goto cells l.words w i) (cc) counted;
           cause = λ n x. cc;
         }
 
@@ -101,8 +102,8 @@ module _ (G : Grammar) (n : ℕ) (A : Automaton) (cells : ℕ → ℕ → Option
   abbrev Brought : Stepped ℕ → Type 0
   Brought x = Shows G A cells (turns ++ word d w x.answer ∷ []) b₀ n₀ x.next list free
 
-  right : (x : Answer ℕ) → RightWord G A d w (account_line (plan_line m d)) x → RightTurn G A n₀ (account turns) (word d w x)
-  right x r = subst (λ l. RightWord G A d w l x) (sym (line_shown G A cells s d)) r
+  right : (x : Answer ℕ) → RightWord G A.goto cells d w (account_line (plan_line m d)) x → RightTurn G A.goto cells n₀ (account turns) (word d w x)
+  right x r = subst (λ l. RightWord G A.goto cells d w l x) (sym (line_shown G A cells s d)) r
 
   word_line : Open G A cells (plan_line m d).line → Ready false d (account_line (plan_line m d)) → (t : Turned) → take_word G A cells (plan_line m d).line w ≡ t → Brought (placed m d (word_turned (plan_line m d).line t))
   word_line o y (Turned.refused c) e = shown_same G A cells s (word d w (refused c)) (right _ (word_refused T.given.valid (lawful_states G n A T.given.numbered) T.productive cells T.exact d w (plan_line m d).line o (plan_line m d).judged y c e)) refl

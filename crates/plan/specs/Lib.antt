@@ -1,6 +1,7 @@
 pub mod Turns
 pub mod Account
 pub mod Entries
+pub mod TableRuns
 pub mod RightAnswers
 pub mod Law
 pub mod Model

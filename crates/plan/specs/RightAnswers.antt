@@ -1,13 +1,13 @@
 -- Which answer to a turn is right, in the account of the turns before it.
-use Rattle.std.specs.Prelude.{◌≡◌, ℕ, ◌+◌, ◌-◌, ◌^◌, ◌<◌, ◌≤◌, min, Bool, true, false, not, ◌↔◌, List, [], ◌∷◌, ◌++◌, length}
+use Rattle.std.specs.Prelude.{◌≡◌, ℕ, ◌+◌, ◌-◌, ◌^◌, ◌<◌, ◌≤◌, min, Bool, true, false, not, ◌↔◌, List, [], ◌∷◌, ◌++◌, length, Option}
 use Rattle.grammar.specs.Grammar.{Grammar, IsTerminal}
 use Rattle.grammar.specs.Derivation.{Derives, Sentence, ShortSentence, Begins}
-use Rattle.grammar.specs.States.{Automaton}
-use Rattle.grammar.specs.Machine.{Run, FewReductions}
+use Rattle.grammar.specs.declared.action.Action.{Action}
 use Rattle.line.specs.Answers.{Answer, given, refused, IsGiven}
 use Rattle.plan.specs.Turns.{SlipModel, Turn, word, judge, book, withdraw, clear}
 use Rattle.plan.specs.Account.{AccountLine, BookedLine, Account, line_of}
 use Rattle.plan.specs.Entries.{EntryOf, Entries}
+use Rattle.plan.specs.TableRuns.{Run, FewReductions}
 
 -- The designer is one of 0 to 7, and the line is judged or open as wanted.
 pub record Ready (judged : Bool) (designer : ℕ) (l : AccountLine) : Type 0 where
@@ -19,37 +19,37 @@ pub data Unready (judged : Bool) (designer : ℕ) (l : AccountLine) : ℕ → Ty
   no_designer : 7 < designer → Unready judged designer l 9
   other_status : designer < 8 → l.judged ≡ not judged → Unready judged designer l 10
 
-module _ (G : Grammar) (A : Automaton) where
+module _ (G : Grammar) (goto : ℕ → ℕ → Option ℕ) (cells : ℕ → ℕ → Option Action) where
   -- The machine, run from state 0 over the words, makes n reductions on its further way over w; and so does every such run.
   pub record Reductions (words : List ℕ) (w n : ℕ) : Type 0 where
     pub rules : List ℕ
     pub states : List ℕ
-    pub run : Run G A (0 ∷ []) words rules states []
+    pub run : Run G goto cells (0 ∷ []) words rules states []
     pub rules_on : List ℕ
     pub states_on : List ℕ
-    pub run_on : Run G A states (w ∷ []) rules_on states_on []
+    pub run_on : Run G goto cells states (w ∷ []) rules_on states_on []
     pub count : length rules_on ≡ n
-    pub every : (ps qs σ τ : List ℕ) → Run G A (0 ∷ []) words ps σ [] → Run G A (0 ∷ []) (words ++ w ∷ []) qs τ [] → length qs ≡ length ps + n
+    pub every : (ps qs σ τ : List ℕ) → Run G goto cells (0 ∷ []) words ps σ [] → Run G goto cells (0 ∷ []) (words ++ w ∷ []) qs τ [] → length qs ≡ length ps + n
 
   -- Why a word is refused: 11, the line has 256 words; 12, the word is no terminal; 13, the machine, run over the line's words and it, makes a 769th reduction; 14, it does not, and no sentence begins so.
   pub data WordCause (designer w : ℕ) (l : AccountLine) : ℕ → Type 0 where
     unready : {c : ℕ} → Unready false designer l c → WordCause designer w l c
     line_full : Ready false designer l → 256 ≤ length l.words → WordCause designer w l 11
     no_terminal : Ready false designer l → length l.words < 256 → (IsTerminal G w → ⊥) → WordCause designer w l 12
-    too_many : Ready false designer l → length l.words < 256 → IsTerminal G w → (FewReductions G A (l.words ++ w ∷ []) → ⊥) → WordCause designer w l 13
-    no_sentence : Ready false designer l → length l.words < 256 → IsTerminal G w → FewReductions G A (l.words ++ w ∷ []) → (Begins G (l.words ++ w ∷ []) → ⊥) → WordCause designer w l 14
+    too_many : Ready false designer l → length l.words < 256 → IsTerminal G w → (FewReductions G goto cells (l.words ++ w ∷ []) → ⊥) → WordCause designer w l 13
+    no_sentence : Ready false designer l → length l.words < 256 → IsTerminal G w → FewReductions G goto cells (l.words ++ w ∷ []) → (Begins G (l.words ++ w ∷ []) → ⊥) → WordCause designer w l 14
 
   -- A word is taken exactly when its line is open and below its limits, and some sentence begins with the line's words and it; the answer is the number of reductions of that turn.
   pub record RightWord (designer w : ℕ) (l : AccountLine) (x : Answer ℕ) : Type 0 where
-    pub taken : IsGiven x ↔ (Ready false designer l × (length l.words < 256) × FewReductions G A (l.words ++ w ∷ []) × Begins G (l.words ++ w ∷ []))
+    pub taken : IsGiven x ↔ (Ready false designer l × (length l.words < 256) × FewReductions G goto cells (l.words ++ w ∷ []) × Begins G (l.words ++ w ∷ []))
     pub count : (n : ℕ) → x ≡ given n → Reductions l.words w n
     pub cause : (c : ℕ) → x ≡ refused c → WordCause designer w l c
 
   -- Why judging is refused: 13, the machine, run over the line's words and the end mark, makes a 769th reduction; 14, it does not, and the words are no sentence.
   pub data JudgeCause (designer : ℕ) (l : AccountLine) : ℕ → Type 0 where
     unready : {c : ℕ} → Unready false designer l c → JudgeCause designer l c
-    too_many : Ready false designer l → (FewReductions G A (l.words ++ 0 ∷ []) → ⊥) → JudgeCause designer l 13
-    no_sentence : Ready false designer l → FewReductions G A (l.words ++ 0 ∷ []) → (Sentence G l.words → ⊥) → JudgeCause designer l 14
+    too_many : Ready false designer l → (FewReductions G goto cells (l.words ++ 0 ∷ []) → ⊥) → JudgeCause designer l 13
+    no_sentence : Ready false designer l → FewReductions G goto cells (l.words ++ 0 ∷ []) → (Sentence G l.words → ⊥) → JudgeCause designer l 14
 
   -- A line is judged good exactly when it is open and its words are a sentence of at most 768 derivation steps; its slip has the designer and the numbers of words and steps.
   pub record RightJudge (designer : ℕ) (l : AccountLine) (x : Answer SlipModel) : Type 0 where
@@ -89,9 +89,9 @@ pub record RightFresh (judged : Bool) (designer : ℕ) (l : AccountLine) (x : An
   pub cause : (c : ℕ) → x ≡ refused c → Unready judged designer l c
 
 -- The answer of a turn is right, where n₀ numbers were free at the opening. Slips act on the line of their designer, wherever they came from.
-abbrev pub RightTurn : Grammar → Automaton → ℕ → Account → Turn → Type 0
-RightTurn G A n₀ a (word d w x) = RightWord G A d w (line_of a d) x
-RightTurn G A n₀ a (judge d x) = RightJudge G A d (line_of a d) x
-RightTurn G A n₀ a (book s x) = RightBook G n₀ a s.designer x
-RightTurn G A n₀ a (withdraw s x) = RightFresh true s.designer (line_of a s.designer) x
-RightTurn G A n₀ a (clear d x) = RightFresh false d (line_of a d) x
+abbrev pub RightTurn : Grammar → (ℕ → ℕ → Option ℕ) → (ℕ → ℕ → Option Action) → ℕ → Account → Turn → Type 0
+RightTurn G goto cells n₀ a (word d w x) = RightWord G goto cells d w (line_of a d) x
+RightTurn G goto cells n₀ a (judge d x) = RightJudge G goto cells d (line_of a d) x
+RightTurn G goto cells n₀ a (book s x) = RightBook G n₀ a s.designer x
+RightTurn G goto cells n₀ a (withdraw s x) = RightFresh true s.designer (line_of a s.designer) x
+RightTurn G goto cells n₀ a (clear d x) = RightFresh false d (line_of a d) x

@@ -26,4 +26,4 @@ module _ (G : Grammar) (A : Automaton) (cells : ℕ → ℕ → Option Action) w
     pub lines : (account turns).lines ≡ map account_line m.lines
     pub stands : (d : ℕ) → Stands (plan_line m d).judged (plan_line m d).line
     pub count : m.count ≡ min (length (account turns).booked) (2 ^ 64 - 1)
-    pub law : Law G A b₀ n₀ turns list free
+    pub law : Law G A.goto cells b₀ n₀ turns list free
