@@ -12,3 +12,4 @@ pub mod Promised
 pub mod LawKept
 pub mod WholeLines
 pub mod WholeCalls
+pub mod Replies

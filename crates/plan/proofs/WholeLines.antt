@@ -8,7 +8,8 @@ use Rattle.line.specs.Answers.{Answer, given, refused}
 use Rattle.plan.specs.Turns.{SlipModel, Turn, word, judge, book, clear}
 use Rattle.plan.specs.Plans.{PlanValue, SameBook}
 use Rattle.plan.specs.LawKept.{KeepsLaw, LawKept}
-use Rattle.plan.specs.WholeLines.{Taken, one_more, Judging, all_taken, not_taken, Withdrawing, SettlingSlip, booked, withdrawn, WholeLine, Grown, Made}
+use Rattle.plan.specs.WholeLines.{Taken, one_more, Judging, all_taken, not_taken, Withdrawing, SettlingSlip, booked, withdrawn, WholeLine}
+use Rattle.plan.specs.Made.{Grown, Made}
 use Rattle.plan.proofs.LawKept.{none_kept, then_kept}
 
 module _ {B : Type 0} (list : B → List ℕ) (free : B → ℕ) (grows : B → List ℕ → B → Type 0) (laws : Laws list free grows) where

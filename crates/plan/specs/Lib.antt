@@ -12,6 +12,9 @@ pub mod Slips
 pub mod Plans
 pub mod Lent
 pub mod Bookings
+pub mod Made
+pub mod Requests
+pub mod Runs
 pub mod WholeLines
 pub mod WholeCalls
 pub mod WorkedEntry

@@ -4,10 +4,14 @@
 mod entry;
 mod lines;
 mod plan;
+mod request;
+mod requests;
 mod slip;
 mod theorems;
 mod whole_line;
 
 pub use plan::Plan;
+pub use request::{Asked, Reply, Request};
+pub use requests::run;
 pub use slip::Slip;
 pub use theorems::worked_entry;

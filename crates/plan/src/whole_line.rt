@@ -4,7 +4,8 @@ ghost use Rattle.plan.specs.Bookings.{SlipWaits, Waiting};
 ghost use Rattle.plan.specs.Plans.{BookGrows, SameBook};
 ghost use Rattle.plan.specs.Steps.{withdraw_step};
 ghost use Rattle.plan.specs.WholeCalls.{judging_call, line_call, settling_call};
-ghost use Rattle.plan.specs.WholeLines.{Judging, Made, SettlingSlip, WholeLine, Withdrawing};
+ghost use Rattle.plan.specs.Made.{Made};
+ghost use Rattle.plan.specs.WholeLines.{Judging, SettlingSlip, WholeLine, Withdrawing};
 ghost use Rattle.tables.specs.Building.{held};
 ghost use Rattle.std.specs.Prelude.{◌≡◌};
 

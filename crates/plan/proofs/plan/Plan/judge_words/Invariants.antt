@@ -2,7 +2,8 @@ use Rattle.std.proofs.Common.{◌≡◌, take, drop}
 use Rattle.tables.specs.Building.{held}
 use Rattle.plan.specs.Plans.{SameBook}
 use Rattle.plan.specs.WholeCalls.{words_call}
-use Rattle.plan.specs.WholeLines.{Taken, Made}
+use Rattle.plan.specs.Made.{Made}
+use Rattle.plan.specs.WholeLines.{Taken}
 use Rattle.plan.proofs.plan.Plan.judge_words.Given as goal
 
 abbrev pub invariant-loop-word : goal.invariant-loop-word

@@ -1,7 +1,8 @@
 use Rattle.std.proofs.Common.{subst}
 use Rattle.line.specs.TurnRefusals.{told}
 use Rattle.plan.specs.Turns.{SlipModel}
-use Rattle.plan.specs.WholeLines.{Made, Withdrawing}
+use Rattle.plan.specs.Made.{Made}
+use Rattle.plan.specs.WholeLines.{Withdrawing}
 use Rattle.plan.proofs.WholeLines.{settled_booked, settled_withdrawn}
 use Rattle.plan.proofs.plan.Plan.settle.Goals as goal
 

@@ -1,0 +1,46 @@
+use Rattle.std.proofs.Common.{Some, None, [], ◌∷◌, slice_set, sym, ap, ◌∙◌, subst}
+use Rattle.std.proofs.lemmas.List.{set-get_or}
+use Rattle.line.specs.Answers.{given, refused}
+use Rattle.line.specs.TurnRefusals.{told}
+use Rattle.plan.specs.declared.request.Request.TheVariants.{Withdraw}
+use Rattle.plan.specs.declared.request.Reply.TheVariants.{EmptySlot, Refused}
+use Rattle.plan.specs.Turns.{withdraw}
+use Rattle.plan.specs.Requests.{Replied, withdrawn_nowhere, nothing_withdrawn, withdrawn, not_withdrawn}
+use Rattle.plan.proofs.WholeLines.{made_none, made_turn}
+use Rattle.plan.proofs.Replies.{has, put_back}
+use Rattle.plan.proofs.plan.Plan.withdraw_from.Goals as goal
+
+pub returns-then-slot-slips : goal.returns-then-slot-slips
+returns-then-slot-slips g c =
+    let b = g.B.Book in
+    made_none b.list b.free b.grows b.laws _ c.args.self.now (withdrawn_nowhere c.args.slot c.if-slot-slips.true)
+
+pub returns-in_default : goal.returns-in_default
+returns-in_default g c =
+    let b = g.B.Book in
+    let i = c.args.slot in
+    let none = has c.args.slips.now i _ _ c.if-slot-slips.false (sym c.take.ensures.value ∙ c.in_default.is) in
+    let same = ap (slice_set c.args.slips.now i) (c.take.ensures.after ∙ sym none.1) ∙ set-get_or c.args.slips.now i None in
+    made_none b.list b.free b.grows b.laws _ c.args.self.now
+    (subst (λ s. Replied (Withdraw i) EmptySlot c.args.slips.now s []) (sym same) (nothing_withdrawn i none))
+
+pub returns-in-Ok : goal.returns-in-Ok
+returns-in-Ok g c =
+    let b = g.B.Book in
+    let i = c.args.slot in
+    let x = c.in-Some.slip in
+    let y = c.in-Ok.ensures in
+    let some = has c.args.slips.now i _ _ c.if-slot-slips.false (sym c.take.ensures.value ∙ c.in-Some.is) in
+    made_turn b.list b.free b.grows b.laws _ c.args.self.now c.withdraw.new.self (withdraw x (given tt)) y.kept y.law (rw c.take.ensures.after (withdrawn i x some))
+
+pub returns-in_default-replace : goal.returns-in_default-replace
+returns-in_default-replace g c =
+    let b = g.B.Book in
+    let i = c.args.slot in
+    let x = c.in-Some.slip in
+    let e = c.in-Err.refusal in
+    let y = c.in-Err.ensures in
+    let some = has c.args.slips.now i _ _ c.if-slot-slips.false (sym c.take.ensures.value ∙ c.in-Some.is) in
+    let same = put_back c.args.slips.now i x _ _ some c.take.ensures.after (c.replace.ensures.after ∙ ap Some y.back) in
+    made_turn b.list b.free b.grows b.laws _ c.args.self.now c.withdraw.new.self (withdraw x (refused (told e).number)) y.kept y.law
+    (subst (λ s. Replied (Withdraw i) (Refused e) c.args.slips.now s (withdraw x (refused (told e).number) ∷ [])) (sym same) (not_withdrawn i x e some))
