@@ -13,3 +13,5 @@ pub mod LawKept
 pub mod WholeLines
 pub mod WholeCalls
 pub mod Replies
+pub mod Rewriting
+pub mod RunsKept

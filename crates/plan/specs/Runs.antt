@@ -15,9 +15,9 @@ use Rattle.plan.specs.Made.{Grown}
 abbrev pub Kept : Grammar → List ℕ → ℕ → List Turn → List ℕ → ℕ → Type 0
 Kept G b₀ n₀ turns list free =
     ∥ ((n : ℕ) × (A : Automaton) × (cells : ℕ → ℕ → Option Action)
-        × Outcome G (built n A cells)
-        × Law G A.goto cells b₀ n₀ turns list free
-        × Promises G A.goto cells b₀ n₀ turns list free) ∥₁
+    × Outcome G (built n A cells)
+    × Law G A.goto cells b₀ n₀ turns list free
+    × Promises G A.goto cells b₀ n₀ turns list free) ∥₁
 
 -- Done: there are turns, just those that were asked for with the answers given, and all of this holds of them;
 -- the book grew in its own way. Refused as building is: the book is as it was, and so is what was lent.

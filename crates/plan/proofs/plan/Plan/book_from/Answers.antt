@@ -1,6 +1,6 @@
 use Rattle.std.proofs.Common.{Some, None, [], ◌∷◌, slice_set, sym, ap, ◌∙◌, subst}
 use Rattle.std.proofs.lemmas.List.{set-get_or}
-use Rattle.line.specs.Answers.{given, refused}
+use Rattle.line.specs.Answers.{refused}
 use Rattle.line.specs.TurnRefusals.{told}
 use Rattle.plan.specs.declared.request.Request.TheVariants.{Book}
 use Rattle.plan.specs.declared.request.Reply.TheVariants.{EmptySlot, Refused}

@@ -1,8 +1,7 @@
-use Rattle.std.proofs.Common.{Some, sym, ap, ◌∙◌, subst}
 use Rattle.line.specs.Answers.{given, refused}
 use Rattle.line.specs.TurnRefusals.{told}
 use Rattle.plan.specs.Turns.{judge}
-use Rattle.plan.specs.Requests.{Replied, judged_nowhere, slot_full, judged, not_judged}
+use Rattle.plan.specs.Requests.{judged_nowhere, slot_full, judged, not_judged}
 use Rattle.plan.proofs.WholeLines.{made_none, made_turn}
 use Rattle.plan.proofs.Replies.{has, empty, full}
 use Rattle.plan.proofs.plan.Plan.judge_into.Goals as goal
