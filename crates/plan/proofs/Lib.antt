@@ -15,3 +15,4 @@ pub mod WholeCalls
 pub mod Replies
 pub mod Rewriting
 pub mod RunsKept
+pub mod LinesAnswered

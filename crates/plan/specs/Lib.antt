@@ -16,5 +16,6 @@ pub mod Made
 pub mod Requests
 pub mod Runs
 pub mod WholeLines
+pub mod LinesAnswered
 pub mod WholeCalls
 pub mod WorkedEntry

@@ -9,9 +9,11 @@ mod requests;
 mod slip;
 mod theorems;
 mod whole_line;
+mod whole_lines;
 
 pub use plan::Plan;
 pub use request::{Asked, Reply, Request};
 pub use requests::run;
 pub use slip::Slip;
 pub use theorems::worked_entry;
+pub use whole_lines::{LineAsked, book_all};
