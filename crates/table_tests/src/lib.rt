@@ -20,6 +20,8 @@ mod rebuilding;
 #[cfg(test)]
 mod recursion;
 #[cfg(test)]
+mod refusals;
+#[cfg(test)]
 mod script;
 #[cfg(test)]
 mod table;

@@ -2,11 +2,11 @@
 use super::script::{Script, spelled};
 use super::table::{alike, built, comes_to, conflict, packed, written};
 use grammar::Action::{Accept, Reduce};
-use grammar::Refusal::{Limits, States, Useless};
 use sheet::Supplement;
 use std::alloc::{AllocError, Global};
 use std::process::Abort;
 use std::test::Fail;
+use tables::BuildRefusal::{Limits, States, Useless};
 use written::WrittenSheet;
 
 // Packed and written, the rules build so many states, and the same tables.
@@ -26,7 +26,8 @@ fn both_off_limits(rt: &impl Abort, heap: Global, script: &Script) -> Result<(),
     off_limits(rt, heap, &numbers)?;
     let text = spelled(heap, &packed(rt, &numbers))?;
     let mut opened = WrittenSheet::new();
-    assert_eq!(rt; opened.open(text.as_bytes()), Err(Limits));
+    let answer = opened.open(text.as_bytes());
+    assert_eq!(rt; answer.map_err(|refusal| refusal.number()), Err(3));
     Ok(())
 }
 

@@ -1,11 +1,11 @@
 // Codes out of range: the lowest rule that has one is told.
 use super::table::{comes_to, packed};
-use grammar::Refusal;
-use grammar::Refusal::{Limits, Range, Useless};
 use std::test::Fail;
+use tables::BuildRefusal;
+use tables::BuildRefusal::{Limits, Range, Useless};
 
 // Each is the sheet of `all_in_range` but for some codes, and here and there a rule or a nonterminal more.
-static CASES: [(&[u16], Refusal); 15] = [
+static CASES: [(&[u16], BuildRefusal); 15] = [
     // right sides
     (&[2, 1, 2, 5, 8, 3, 1, 0, 3, 1, 2], Range { rule: 1 }),
     (&[2, 1, 2, 5, 8, 3, 1, 4, 3, 1, 2], Range { rule: 1 }),

@@ -1,8 +1,7 @@
 // Tables that are built again, and from sheets of other kinds.
 use super::table::{SAMPLE, alike, built, packed, written};
-use grammar::Refusal;
 use sheet::Supplement;
-use tables::Tables;
+use tables::{BuildRefusal, Tables};
 
 static LIST: &str = r#"list : list "x" | "x" ;"#;
 
@@ -35,7 +34,7 @@ fn blank_tables_tell_nothing(rt: HostRuntime) {
     assert!(rt; !tables.is_blank() && !silent(&tables));
     assert_eq!(rt;
         tables.build(&packed(&rt, &[1, 1, 0])),
-        Err(Refusal::Limits)
+        Err(BuildRefusal::Limits)
     );
     assert!(rt; silent(&tables) && alike(&tables, &Tables::new()));
     assert_eq!(rt; tables.build(&written(&rt, LIST)), Ok(()));

@@ -1,6 +1,7 @@
 // Sheets that are made rule by rule, as packed numbers and as text.
 use sheet::RuleSheet;
 use std::alloc::{AllocError, Global};
+use std::test::Fail;
 
 #[derive(Drop)]
 pub(crate) struct Script {
@@ -52,18 +53,19 @@ fn put_code(text: &mut String, terminals: u16, code: u16) -> Result<(), AllocErr
     write!(text, "{letter} ")
 }
 
-fn put_rule<S: RuleSheet>(text: &mut String, sheet: &S, rule: u16) -> Result<(), AllocError> {
+fn put_rule<S: RuleSheet>(text: &mut String, sheet: &S, rule: u16) -> Result<(), Fail> {
     let terminals = sheet.terminals();
-    put_code(text, terminals, sheet.left(rule).unwrap_or(0))?;
+    put_code(text, terminals, sheet.left(rule).ok_or("no left side")?)?;
     text.push_str(": ")?;
-    for place in 0..sheet.length(rule).unwrap_or(0) {
-        put_code(text, terminals, sheet.code(rule, place).unwrap_or(0))?;
+    for place in 0..sheet.length(rule).ok_or("no length")? {
+        put_code(text, terminals, sheet.code(rule, place).ok_or("no code")?)?;
     }
-    text.push_str("; ")
+    text.push_str("; ")?;
+    Ok(())
 }
 
 // The sheet as text. It opens to the same numbers where words and left sides come in their order.
-pub(crate) fn spelled<S: RuleSheet>(heap: Global, sheet: &S) -> Result<String, AllocError> {
+pub(crate) fn spelled<S: RuleSheet>(heap: Global, sheet: &S) -> Result<String, Fail> {
     let mut text = String::new(heap);
     for rule in 1..=sheet.rules() {
         put_rule(&mut text, sheet, rule)?;

@@ -1,10 +1,10 @@
 // What a build comes to: a refusal, or states, which are told as text.
-use grammar::{Action, Refusal};
+use grammar::Action;
 use sheet::{PackedSheet, RuleSheet};
 use std::alloc::{AllocError, Global};
 use std::process::Abort;
 use std::test::Fail;
-use tables::Tables;
+use tables::{BuildRefusal, Tables};
 use written::WrittenSheet;
 
 // Sheet A: three words, three nonterminals, four rules and eight states.
@@ -88,7 +88,7 @@ pub(crate) fn comes_to<S: RuleSheet>(
     rt: &impl Abort,
     heap: Global,
     sheet: &S,
-    told: Result<&str, Refusal>,
+    told: Result<&str, BuildRefusal>,
 ) -> Result<(), Fail> {
     let mut tables = built(rt, &written(rt, SAMPLE));
     let answer = tables.build(sheet);
@@ -110,7 +110,7 @@ pub(crate) fn comes_to<S: RuleSheet>(
 pub(crate) fn all_come_to(
     rt: &impl Abort,
     heap: Global,
-    cases: &[(&str, Result<&str, Refusal>)],
+    cases: &[(&str, Result<&str, BuildRefusal>)],
 ) -> Result<(), Fail> {
     for (text, told) in cases {
         comes_to(rt, heap, &written(rt, text), *told)?;
@@ -145,8 +145,8 @@ pub(crate) fn lines_hold(rt: &impl Abort, heap: Global, lines: &[&str]) -> Resul
     Ok(())
 }
 
-pub(crate) fn conflict(state: u8, word: u8, first: Action, second: Action) -> Refusal {
-    Refusal::Conflict {
+pub(crate) fn conflict(state: u8, word: u8, first: Action, second: Action) -> BuildRefusal {
+    BuildRefusal::Conflict {
         state,
         word,
         first,

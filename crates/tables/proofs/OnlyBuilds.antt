@@ -57,8 +57,10 @@ module _ (G : Grammar) where
       → (s ≡ r) × (k ≡ h)
   same_build (Ok x) h b (Ok y) k c =
       (refl, ∥∥₁_elim c (Held-set k h) λ q. ∥∥₁_elim b (Held-set k h) λ p. q.3 ∙ one (built q.0 q.1 q.2) (built p.0 p.1 p.2) q.4 p.4 ∙ sym p.3)
-  same_build (Ok x) h b (Err e) k c = absurd (∥∥₁_elim b ⊥_prop λ p. one (refused (told e)) (built p.0 p.1 p.2) c.1 p.4)
-  same_build (Err e) h b (Ok y) k c = absurd (∥∥₁_elim c ⊥_prop λ q. one (built q.0 q.1 q.2) (refused (told e)) q.4 b.1)
+  same_build (Ok x) h b (Err e) k c =
+      absurd (∥∥₁_elim b ⊥_prop λ p. one (refused (told e)) (built p.0 p.1 p.2) c.1 p.4)
+  same_build (Err e) h b (Ok y) k c =
+      absurd (∥∥₁_elim c ⊥_prop λ q. one (built q.0 q.1 q.2) (refused (told e)) q.4 b.1)
   same_build (Err e) h b (Err f) k c = (
     ap Err (told_once f e (one (refused (told f)) (refused (told e)) c.1 b.1)),
     c.0 ∙ sym b.0,

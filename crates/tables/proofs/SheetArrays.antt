@@ -1,5 +1,5 @@
 -- The steps of reading a sheet into arrays.
-use Rattle.std.proofs.Common.{◌≡◌, ℕ, zero, suc, ◌+◌, ◌<◌, ◌≤◌, List, [], ◌∷◌, length, get_or, set, replicate, Option, sym, refl, ap, ◌∙◌, subst, inl, inr, arith, length-set}
+use Rattle.std.proofs.Common.{◌≡◌, ℕ, zero, suc, ◌+◌, ◌<◌, ◌≤◌, List, [], ◌∷◌, length, get_or, set, replicate, Option, Some, None, sym, refl, ap, ◌∙◌, subst, inl, inr, arith, length-set}
 use lib.ListN.{length-replicate}
 use Rattle.std.specs.List.{slice_get}
 use Rattle.std.specs.Option.{unwrap_or}
@@ -35,22 +35,56 @@ code_at [] i d = refl
 code_at (x ∷ rules) zero d = place_at x.right d
 code_at (x ∷ rules) (suc i) d = code_at rules i d
 
+abbrev or_0 : Option ℕ → ℕ
+or_0 o = unwrap_or o 0
+
 module _ (G : Grammar) where
-  -- A reading of a sheet, with 0 for nothing, is what the grammar has.
-  pub left_read : (r x : ℕ) (o : Option ℕ) → 1 ≤ r → x ≡ unwrap_or o 0 → o ≡ left_told G r → x ≡ left_side G r
+  -- A reading of a sheet is what the grammar has.
+  pub left_read :
+      (r x : ℕ) (o : Option ℕ)
+      → 1 ≤ r
+      → o ≡ Some x
+      → o ≡ left_told G r
+      → x ≡ left_side G r
   unfolding left_side
   left_read zero x o h p q = absurd (omega arith)
-  left_read (suc i) x o h p q = p ∙ ap (λ o. unwrap_or o 0) q ∙ left_at G.rules i
+  left_read (suc i) x o h p q = ap or_0 (sym p ∙ q) ∙ left_at G.rules i
 
-  pub length_read : (r x : ℕ) (o : Option ℕ) → 1 ≤ r → x ≡ unwrap_or o 0 → o ≡ length_told G r → x ≡ length (right_side G r)
+  pub length_read :
+      (r x : ℕ) (o : Option ℕ)
+      → 1 ≤ r
+      → o ≡ Some x
+      → o ≡ length_told G r
+      → x ≡ length (right_side G r)
   unfolding right_side
   length_read zero x o h p q = absurd (omega arith)
-  length_read (suc i) x o h p q = p ∙ ap (λ o. unwrap_or o 0) q ∙ length_at G.rules i
+  length_read (suc i) x o h p q = ap or_0 (sym p ∙ q) ∙ length_at G.rules i
 
-  pub code_read : (r d x : ℕ) (o : Option ℕ) → 1 ≤ r → x ≡ unwrap_or o 0 → o ≡ code_told G r d → x ≡ get_or (right_side G r) d 0
+  -- A code that is not told counts as 0, which is no code.
+  code_or_0 :
+      (r d : ℕ) (o : Option ℕ)
+      → 1 ≤ r
+      → o ≡ code_told G r d
+      → or_0 o ≡ get_or (right_side G r) d 0
   unfolding right_side
-  code_read zero d x o h p q = absurd (omega arith)
-  code_read (suc i) d x o h p q = p ∙ ap (λ o. unwrap_or o 0) q ∙ code_at G.rules i d
+  code_or_0 zero d o h q = absurd (omega arith)
+  code_or_0 (suc i) d o h q = ap or_0 q ∙ code_at G.rules i d
+
+  pub code_read :
+      (r d x : ℕ) (o : Option ℕ)
+      → 1 ≤ r
+      → o ≡ Some x
+      → o ≡ code_told G r d
+      → x ≡ get_or (right_side G r) d 0
+  code_read r d x o h p q = sym (ap or_0 p) ∙ code_or_0 r d o h q
+
+  pub code_missing :
+      (r d : ℕ) (o : Option ℕ)
+      → 1 ≤ r
+      → o ≡ None
+      → o ≡ code_told G r d
+      → 0 ≡ get_or (right_side G r) d 0
+  code_missing r d o h p q = sym (ap or_0 p) ∙ code_or_0 r d o h q
 
   pub first_length : length (right_side G 0) ≡ 1
   unfolding right_side

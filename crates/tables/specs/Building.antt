@@ -40,4 +40,7 @@ BuiltFrom G (Err e) h = (h ≡ blank) × Outcome G (refused (told e))
 
 -- Nothing else is built from the grammar: whatever building it comes to is just this result, with just this held.
 pub record OnlyBuild (G : Grammar) (r : Result (Unit {0}) BuildRefusal) (h : Held) : Type 0 where
-  pub same : (r' : Result (Unit {0}) BuildRefusal) (h' : Held) → BuiltFrom G r' h' → (r' ≡ r) × (h' ≡ h)
+  pub same :
+      (r' : Result (Unit {0}) BuildRefusal) (h' : Held)
+      → BuiltFrom G r' h'
+      → (r' ≡ r) × (h' ≡ h)

@@ -2,7 +2,7 @@ use Rattle.std.proofs.Common.{◌<◌, ◌≢◌, length, refl, arith, below_mor
 use Rattle.std.proofs.lemmas.List.{ext_get_or}
 use Rattle.grammar.specs.Grammar.{right_side}
 use Rattle.grammar.proofs.Codes.{each_code}
-use Rattle.tables.proofs.SheetArrays.{code_read, off_range}
+use Rattle.tables.proofs.SheetArrays.{code_read, code_missing, off_range}
 use Rattle.tables.proofs.limits.codes.Goals as goal
 
 pub returns-then-code-eq0 : goal.returns-then-code-eq0
@@ -10,14 +10,18 @@ returns-then-code-eq0 g c =
     let G = g.S.RuleSheet.meaning c.args.sheet.now in
     let r = c.args.rule in
     let d = c.loop-place.place in
-    let is = code_read G r d c.in-Some.code c.code.result c.requires.rule (rw c.in-Some.is refl) c.code.ensures in
-    (refl, off_range G r d c.in-Some.code is (omega (arith, c.requires.size.0)) λ low high. omega (arith, c.requires.top.0))
+    let is = code_read G r d c.in-Some.code c.code.result c.requires.rule c.in-Some.is c.code.ensures in (
+      refl,
+      off_range G r d c.in-Some.code is (omega (arith, c.requires.size.0)) λ low high.
+          omega (arith, c.requires.top.0),
+    )
 
 pub loop-place-preserved : goal.loop-place-preserved
 loop-place-preserved g c =
     let G = g.S.RuleSheet.meaning c.args.sheet.now in
     let d = c.loop-place.place in
-    let is = code_read G c.args.rule d c.in-Some.code c.code.result c.requires.rule (rw c.in-Some.is refl) c.code.ensures in
+    let r = c.args.rule in
+    let is = code_read G r d c.in-Some.code c.code.result c.requires.rule c.in-Some.is c.code.ensures in
     below_more _ _
     (λ k h. let ne : k ≢ d = omega arith in rw get_or-set_other (c.loop-place.invariant k h))
     (let lt : d < length c.loop-place.right = omega arith in rw get_or-set_same (is, omega arith, omega arith))
@@ -36,5 +40,7 @@ returns-in_default g c =
     let G = g.S.RuleSheet.meaning c.args.sheet.now in
     let r = c.args.rule in
     let d = c.loop-place.place in
-    let is = code_read G r d 0 c.code.result c.requires.rule (rw c.in_default.is refl) c.code.ensures in
-    (refl, off_range G r d 0 is (omega (arith, c.requires.size.0)) λ low high. omega (arith, low))
+    let is = code_missing G r d c.code.result c.requires.rule c.in_default.is c.code.ensures in (
+      refl,
+      off_range G r d 0 is (omega (arith, c.requires.size.0)) λ low high. omega (arith, low),
+    )

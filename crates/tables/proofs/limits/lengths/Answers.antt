@@ -1,4 +1,4 @@
-use Rattle.std.proofs.Common.{arith, refl}
+use Rattle.std.proofs.Common.{arith}
 use Rattle.grammar.specs.Outcome.{Within}
 use Rattle.tables.specs.Admitted.{off_limits}
 use Rattle.tables.proofs.SheetArrays.{length_read, lengths_first, lengths_more, too_long}
@@ -19,12 +19,13 @@ pub returns-then-length-gt8 : goal.returns-then-length-gt8
 returns-then-length-gt8 g c =
     let G = g.S.RuleSheet.meaning c.args.sheet.now in
     let r = c.loop-rule.rule in
-    let is = length_read G r c.in-Some.length c.length.result (omega arith) (rw c.in-Some.is refl) c.length.ensures in
+    let is = length_read G r c.in-Some.length c.length.result (omega arith) c.in-Some.is c.length.ensures in
     off_limits (too_long G r (omega arith) (omega arith) (omega (arith, is)))
 
 pub loop-rule-preserved : goal.loop-rule-preserved
 loop-rule-preserved g c =
     let G = g.S.RuleSheet.meaning c.args.sheet.now in
     let r = c.loop-rule.rule in
-    let is = length_read G r c.in-Some.length c.length.result (omega arith) (rw c.in-Some.is refl) c.length.ensures in
-    rw c.from.ensures (lengths_more G r c.in-Some.length c.loop-rule.size c.loop-rule.invariant (omega arith) is (omega arith))
+    let is = length_read G r c.in-Some.length c.length.result (omega arith) c.in-Some.is c.length.ensures in
+    let s = c.loop-rule in
+    rw c.from.ensures (lengths_more G r c.in-Some.length s.size s.invariant (omega arith) is (omega arith))

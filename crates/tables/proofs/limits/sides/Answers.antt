@@ -1,4 +1,4 @@
-use Rattle.std.proofs.Common.{◌≡◌, suc, ◌+◌, ◌-◌, ◌<◌, length, rules, get_or, ap, subst, arith, refl}
+use Rattle.std.proofs.Common.{◌≡◌, suc, ◌+◌, ◌-◌, ◌<◌, length, rules, get_or, ap, subst, arith}
 use Rattle.tables.specs.Admitted.{Unread, out_of_range}
 use Rattle.tables.specs.BuildRefusals.{told}
 use Rattle.tables.specs.SheetArrays.{Sides, Lengths}
@@ -13,7 +13,7 @@ pub returns-then-side-terminals : goal.returns-then-side-terminals
 returns-then-side-terminals g c =
     let G = g.S.RuleSheet.meaning c.args.sheet.now in
     let r = c.loop-rule.rule in
-    let is = left_read G r c.in-Some.side c.left.result (omega arith) (rw c.in-Some.is refl) c.left.ensures in
+    let is = left_read G r c.in-Some.side c.left.result (omega arith) c.in-Some.is c.left.ensures in
     out_of_range c.requires.within (lowest G r c.loop-rule.left c.loop-rule.right c.loop-rule.invariant (omega arith) (omega arith) λ range. omega (arith, range.left.low, range.left.high, is))
 
 pub returns-in_err-codes : goal.returns-in_err-codes
@@ -32,7 +32,7 @@ loop-rule-preserved g c =
     let G = g.S.RuleSheet.meaning c.args.sheet.now in
     let r = c.loop-rule.rule in
     let b : r < suc (length G.rules) = omega arith in
-    let is = left_read G r c.in-Some.side c.left.result (omega arith) (rw c.in-Some.is refl) c.left.ensures in
+    let is = left_read G r c.in-Some.side c.left.result (omega arith) c.in-Some.is c.left.ensures in
     let same = ap (λ i. get_or c.args.size i 0) c.from-r.ensures in
     rw c.from-r.ensures (sides_more G r c.in-Some.side _ c.loop-rule.left c.loop-rule.right c.codes.new.right c.loop-rule.invariant (omega arith) (omega (arith, c.requires.within.counts.rules)) is
     (record { low = omega arith; high = omega arith })
