@@ -31,16 +31,15 @@ fn moves(machine: &Machine, state: usize) -> Row
 }
 
 // The row of a state, with its reductions.
-fn fill_row(machine: &Machine, lookaheads: &[[Option<WordSet>; 97]; 96], state: usize) -> Row
+fn fill_row(machine: &Machine, lookaheads: &[[WordSet; 97]; 96], state: usize) -> Row
     requires state { state < machine.now.states.count }
     requires lookaheads { Lookaheads machine.now.rules machine.now.states lookaheads.now }
     ensures { RowUpto machine.now.rules machine.now.states state (64 * (machine.now.rules.count + 1)) result }
 {
     let mut row = moves(machine, state);
     for rule in 1..machine.rules.count + 1 {
-        if let Some(lookahead) = lookaheads[state][usize::from(rule)] {
-            row.reduce(rule, lookahead, machine.rules.terminals + 1);
-        }
+        let lookahead = lookaheads[state][usize::from(rule)];
+        row.reduce(rule, lookahead, machine.rules.terminals + 1);
     }
     row
 }
@@ -49,7 +48,7 @@ fn fill_row(machine: &Machine, lookaheads: &[[Option<WordSet>; 97]; 96], state: 
 #[inline(never)]
 pub(crate) fn fill(
     machine: &Machine,
-    lookaheads: &[[Option<WordSet>; 97]; 96],
+    lookaheads: &[[WordSet; 97]; 96],
 ) -> Result<[[Option<Action>; 64]; 96], Refusal>
     requires { Lookaheads machine.now.rules machine.now.states lookaheads.now }
     ensures { Filled machine.now.rules machine.now.states result }
