@@ -97,6 +97,18 @@ module _ (R : Rules) (S : States) (s : ℕ) where
     may_not : (w : ℕ) → has entry w ≡ false → Has R S s w (Reduce r) → ⊥
     may_not w e (may_reduce i a) = both_ways (has entry w) e (L.whole s r w i a)
 
+    -- A lookahead without words changes nothing.
+    pub row_no_rule : (row : Row)
+        → entry ≡ no_members
+        → RowUpto R S s (64 * r) row
+        → RowUpto R S s (64 * (r + 1)) row
+    row_no_rule row e f =
+        row_on R S s (64 * r) (64 * (r + 1)) (omega arith) row
+        (λ v c h u b.
+        let below : v < 64 = omega (arith, (placed R S h).word, R.terminals63) in
+        may_not v (ap (λ (x : WordSet). has x v) e)
+        (subst (λ x. Has R S s v x) (of_rank R S c r rule_low (omega arith)) h)) f
+
     -- The words of its lookahead, one after the other.
     pub row_rule : (row : Row) (n : ℕ)
         → n ≤ 64

@@ -6,7 +6,7 @@ ghost use Rattle.tables.specs.RowMeaning.{RowUpto};
 
 use super::machine::Machine;
 use super::row::Row;
-use gather::WordSet;
+use gather::{Join, WordSet};
 use grammar::{Action, Refusal};
 
 // The loops over rules and words go by number: the machine is asked by both, and the cells tell both.
@@ -39,7 +39,10 @@ fn fill_row(machine: &Machine, lookaheads: &[[WordSet; 97]; 96], state: usize) -
     let mut row = moves(machine, state);
     for rule in 1..machine.rules.count + 1 {
         let lookahead = lookaheads[state][usize::from(rule)];
-        row.reduce(rule, lookahead, machine.rules.terminals + 1);
+        // Most rules are not complete in the state.
+        if lookahead != WordSet::NONE {
+            row.reduce(rule, lookahead, machine.rules.terminals + 1);
+        }
     }
     row
 }
