@@ -26,7 +26,8 @@ impl Error for TooManyPlaces {}
 // This is the Digraph walk of DeRemer and Pennello: each place is walked from once, and its list is told once.
 pub fn gather<J: Join, R: Relation>(values: &mut [J], relation: &R) -> Result<(), TooManyPlaces>
     ensures refused { 2304 < length values.old → (result ≡ Err record {}) × (values.new ≡ values.old) }
-    ensures gathered { length values.old ≤ 2304 → (result ≡ Ok tt) × Gathered J.none J.op (R.targets relation.now) values.old values.new }
+    ensures gathered { length values.old ≤ 2304
+        → (result ≡ Ok tt) × Gathered J.NONE J.op (R.targets relation.now) values.old values.new }
 {
     if values.len() > PLACES {
         return Err(TooManyPlaces);

@@ -29,7 +29,7 @@ impl From<Mark> for bool {
 impl Join for Mark {
     const NONE: Mark = Mark(false);
 
-    ghost none = { no_mark };
+    ghost NONE = { no_mark };
 
     ghost op = { either_mark };
 
@@ -40,10 +40,6 @@ impl Join for Mark {
     ghost comm = { either_comm };
 
     ghost assoc = { either_assoc };
-
-    fn neutral() -> Mark {
-        Self::NONE
-    }
 
     fn join(self, other: Mark) -> Mark {
         Mark(self.0 | other.0)

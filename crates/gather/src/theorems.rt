@@ -7,7 +7,7 @@ use super::join::Join;
 
 // What `gather` promises leaves one list only.
 pub fn gathered_once<J: Join>() -> u8
-    ensures theorem { Once J.none J.op }
+    ensures theorem { Once J.NONE J.op }
     ensures answer { result ≡ 0 }
 {
     0

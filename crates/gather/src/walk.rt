@@ -23,7 +23,7 @@ pub(crate) struct Walk<'a, J> {
 // Gives one value to each of these places, whose component is complete.
 fn complete<J: Join>(values: &mut [J], visits: &mut [Visit], places: &[usize], value: J)
     requires { All (λ p. (p < length values.old) × (p < length visits.old)) places.now }
-    ensures { Completed J.none value places.now values.old values.new visits.old visits.new }
+    ensures { Completed J.NONE value places.now values.old values.new visits.old visits.new }
 {
     for &place in places {
         visits[place] = Visit::Done;
@@ -37,7 +37,9 @@ impl<'a, J: Join> Walk<'a, J> {
         ensures lent { result.values.ghost_name ≡ values.entry.ghost_name }
         ensures held { result.values.now ≡ values.old }
         ensures empty { result.stack ≡ [] }
-        ensures sound { (targets : ℕ → List ℕ) → length values.old ≤ 2304 → Sound J.none J.op targets result.values.now (snap result) }
+        ensures sound { (targets : ℕ → List ℕ)
+            → length values.old ≤ 2304
+            → Sound J.NONE J.op targets result.values.now (snap result) }
     {
         Walk {
             values,
@@ -59,7 +61,7 @@ impl<'a, J: Join> Walk<'a, J> {
     fn fold(&mut self, place: usize, target: usize)
         requires inside { (place < length self.old.values.now) × (target < length self.old.values.now) }
         requires few { length self.old.values.now ≤ 2304 }
-        ensures { snap self.new ≡ folded J.none J.op (snap self.old) place target }
+        ensures { snap self.new ≡ folded J.NONE J.op (snap self.old) place target }
     {
         self.visits[place] = self.visits[place].min(self.visits[target]);
         self.values[place] = self.values[place].join(self.values[target]);
@@ -71,7 +73,8 @@ impl<'a, J: Join> Walk<'a, J> {
         requires value { place < length self.old.values.now }
         requires inside { All (λ p. p < length self.old.values.now) self.old.stack }
         requires few { length self.old.values.now ≤ 2304 }
-        ensures { LeftStack J.none (value J.none (snap self.old) place) low (snap self.old) (snap self.new) }
+        ensures { LeftStack J.NONE (value J.NONE (snap self.old) place) low
+            (snap self.old) (snap self.new) }
     {
         let value = self.values[place];
         complete(self.values, &mut self.visits, self.stack.above(low), value);
@@ -80,8 +83,11 @@ impl<'a, J: Join> Walk<'a, J> {
 
     // Walks from a place that was not seen yet over all that it reaches and that was not seen yet.
     fn traverse<R: Relation>(&mut self, place: usize, relation: &R)
-        requires { Ready J.none J.op (R.targets relation.now) (snap self.old) place }
-        ensures { (seeds : List J) → Sound J.none J.op (R.targets relation.now) seeds (snap self.old) → Walked J.none J.op (R.targets relation.now) seeds (snap self.old) (snap self.new) place }
+        requires { Ready J.NONE J.op (R.targets relation.now) (snap self.old) place }
+        ensures { (seeds : List J)
+            → Sound J.NONE J.op (R.targets relation.now) seeds (snap self.old)
+            → Walked J.NONE J.op (R.targets relation.now) seeds
+            (snap self.old) (snap self.new) place }
     {
         let height = self.stack.height();
         self.push(place);
@@ -100,10 +106,12 @@ impl<'a, J: Join> Walk<'a, J> {
 
     // Walks from every place that was not seen on the way from an earlier one.
     pub(crate) fn walk_all<R: Relation>(&mut self, relation: &R)
-        requires sound { Sound J.none J.op (R.targets relation.now) self.old.values.now (snap self.old) }
+        requires sound { Sound J.NONE J.op (R.targets relation.now)
+            self.old.values.now (snap self.old) }
         requires empty { self.old.stack ≡ [] }
         ensures lent { self.new.values.ghost_name ≡ self.old.values.ghost_name }
-        ensures gathered { Gathered J.none J.op (R.targets relation.now) self.old.values.now self.new.values.now }
+        ensures gathered { Gathered J.NONE J.op (R.targets relation.now)
+            self.old.values.now self.new.values.now }
     {
         // by number, since the walk as a whole goes on from each place
         for place in 0..self.values.len() {

@@ -1,4 +1,4 @@
-ghost use Rattle.std.specs.Prelude.{◌≡◌, ℕ, false, ◌&&◌, ◌||◌, ◌==◌, nat_lt};
+ghost use Rattle.std.specs.Prelude.{◌≡◌, ℕ, ◌&&◌, ◌||◌, ◌==◌, nat_lt};
 ghost use Rattle.gather.specs.Members.{has, no_members, unite};
 ghost use Rattle.gather.specs.Sets.{unite_none, unite_self, unite_comm, unite_assoc};
 
@@ -9,19 +9,12 @@ use super::join::Join;
 pub struct WordSet(u64);
 
 impl WordSet {
-    // The set without members.
-    pub fn empty() -> WordSet
-        ensures { (k : ℕ) → has result k ≡ false }
-    {
-        WordSet::NONE
-    }
-
     // The set of this number alone; empty if the number is above 63.
     pub fn one(number: usize) -> WordSet
         ensures { (k : ℕ) → has result k ≡ (nat_lt number 64 && k == number) }
     {
         if number > 63 {
-            return WordSet::empty();
+            return WordSet::NONE;
         }
         WordSet(1 << number)
     }
@@ -44,9 +37,10 @@ impl WordSet {
 }
 
 impl Join for WordSet {
+    // The set without members.
     const NONE: WordSet = WordSet(0);
 
-    ghost none = { no_members };
+    ghost NONE = { no_members };
 
     ghost op = { unite };
 
@@ -57,10 +51,6 @@ impl Join for WordSet {
     ghost comm = { unite_comm };
 
     ghost assoc = { unite_assoc };
-
-    fn neutral() -> WordSet {
-        Self::NONE
-    }
 
     fn join(self, other: WordSet) -> WordSet {
         self.union(other)

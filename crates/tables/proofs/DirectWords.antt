@@ -9,7 +9,7 @@ use Rattle.tables.specs.declared.rules.Rules.{Rules}
 use Rattle.tables.specs.declared.states.States.{States}
 use Rattle.tables.specs.Arrays.{grammar_of, automaton}
 use Rattle.gather.specs.declared.word_set.WordSet.{WordSet}
-use Rattle.gather.specs.Members.{has, no_members}
+use Rattle.gather.specs.Members.{no_members}
 use Rattle.tables.specs.Transitions.{DirectIn, DirectAt, transition_at}
 use Rattle.tables.specs.WordSets.{WordsBelow, SetsOf}
 use Rattle.tables.proofs.RuleArrays.{terminals_is}
@@ -58,11 +58,20 @@ module _ (R : Rules) (S : States) where
         whole = λ w b d. s.whole t w l (subst (λ q. Direct G A q w) (one_goto R S (transition_at R i).0 (transition_at R i).1 d.is_transition.move (sym e)) d.direct);
       }
 
-  words_nowhere : (x : WordSet) (i : ℕ) → ((w : ℕ) → has x w ≡ false) → None ≡ A.goto (transition_at R i).0 (transition_at R i).1 → WordsBelow (DirectAt R S i) 64 x
-  words_nowhere x i none_has e =
-      words_all (DirectAt R S i) 0 64 x (λ w d. absurd (none-some _ (e ∙ d.is_transition.move))) (words_none (DirectAt R S i) x none_has)
+  words_nowhere : (i : ℕ)
+      → None ≡ A.goto (transition_at R i).0 (transition_at R i).1
+      → WordsBelow (DirectAt R S i) 64 no_members
+  words_nowhere i e =
+      words_all (DirectAt R S i) 0 64 no_members
+      (λ w d. absurd (none-some _ (e ∙ d.is_transition.move))) (words_none (DirectAt R S i))
 
   -- Both, by the state behind or none.
-  pub words_told : (l : List WordSet) (x : WordSet) (i : ℕ) (o : Option ℕ) (y : WordSet) → SetsOf (DirectIn R S) 96 l → ((w : ℕ) → has x w ≡ false) → o ≡ A.goto (transition_at R i).0 (transition_at R i).1 → MatchOption o (y ≡ x) (λ t. y ≡ get_or l t no_members) → WordsBelow (DirectAt R S i) 64 y
-  words_told l x i None y s none_has e m = subst (λ z. WordsBelow (DirectAt R S i) 64 z) (sym m) (words_nowhere x i none_has e)
-  words_told l x i (Some t) y s none_has e m = subst (λ z. WordsBelow (DirectAt R S i) 64 z) (sym m) (words_behind l i t s e)
+  pub words_told : (l : List WordSet) (i : ℕ) (o : Option ℕ) (y : WordSet)
+      → SetsOf (DirectIn R S) 96 l
+      → o ≡ A.goto (transition_at R i).0 (transition_at R i).1
+      → MatchOption o (y ≡ no_members) (λ t. y ≡ get_or l t no_members)
+      → WordsBelow (DirectAt R S i) 64 y
+  words_told l i None y s e m =
+      subst (λ z. WordsBelow (DirectAt R S i) 64 z) (sym m) (words_nowhere i e)
+  words_told l i (Some t) y s e m =
+      subst (λ z. WordsBelow (DirectAt R S i) 64 z) (sym m) (words_behind l i t s e)

@@ -3,7 +3,7 @@ use Rattle.std.proofs.Common.{◌≡◌, ℕ, zero, suc, ◌+◌, ◌*◌, ◌<�
 use Rattle.std.proofs.lemmas.List.{get_or-set_same, get_or-set_other, length-set, length-replicate, get_or-replicate}
 use Rattle.std.proofs.lemmas.Bool.{cases_eq, cases_Bool, both_ways}
 use Rattle.std.proofs.lemmas.Option.{none-some}
-use Rattle.gather.specs.Members.{has}
+use Rattle.gather.specs.Members.{has, no_members}
 use Rattle.gather.specs.declared.word_set.WordSet.{WordSet}
 use Rattle.grammar.specs.Grammar.{Grammar}
 use Rattle.grammar.specs.States.{Automaton}
@@ -14,7 +14,7 @@ use Rattle.tables.specs.declared.row.Row.{Row}
 use Rattle.tables.specs.declared.rules.Rules.{Rules}
 use Rattle.tables.specs.declared.states.States.{States}
 use Rattle.tables.specs.Arrays.{grammar_of, automaton}
-use Rattle.tables.specs.Lookaheads.{member, Lookaheads}
+use Rattle.tables.specs.Lookaheads.{Lookaheads}
 use Rattle.tables.specs.Rows.{reduced}
 use Rattle.tables.specs.RowMeaning.{Has, CellUpto, Alone, ConflictUpto, RowUpto}
 use Rattle.tables.proofs.RuleArrays.{is_rule_lem}
@@ -86,36 +86,54 @@ module _ (R : Rules) (S : States) (s : ℕ) where
   last_word r n row h k f =
       row_on R S s (64 * r + n) (64 * (r + 1)) (omega arith) row (λ v c x u b. omega (arith, (placed R S x).word, R.terminals63)) f
 
-  module _ (l : List (List (Option WordSet))) (L : Lookaheads R S l) (low : s < S.count) (r : ℕ) (rule_low : 1 ≤ r) (rule_high : r ≤ R.count) where
-    abbrev entry : Option WordSet
-    entry = get_or (get_or l s []) r None
+  module _ (l : List (List WordSet)) (L : Lookaheads R S l) (low : s < S.count)
+      (r : ℕ) (rule_low : 1 ≤ r) (rule_high : r ≤ R.count) where
+    abbrev entry : WordSet
+    entry = get_or (get_or l s []) r no_members
 
-    may : (w : ℕ) → member entry w ≡ true → Has R S s w (Reduce r)
+    may : (w : ℕ) → has entry w ≡ true → Has R S s w (Reduce r)
     may w e = may_reduce (is_rule_lem R r rule_low rule_high) (L.sound s r w (omega (arith, S.few)) (is_rule_lem R r rule_low rule_high) e)
 
-    may_not : (w : ℕ) → member entry w ≡ false → Has R S s w (Reduce r) → ⊥
-    may_not w e (may_reduce i a) = both_ways (member entry w) e (L.whole s r w i a)
+    may_not : (w : ℕ) → has entry w ≡ false → Has R S s w (Reduce r) → ⊥
+    may_not w e (may_reduce i a) = both_ways (has entry w) e (L.whole s r w i a)
 
-    -- The rule has no lookahead in the state.
-    pub row_no_rule : (row : Row) → entry ≡ None → RowUpto R S s (64 * r) row → RowUpto R S s (64 * (r + 1)) row
+    -- A lookahead without words changes nothing.
+    pub row_no_rule : (row : Row)
+        → entry ≡ no_members
+        → RowUpto R S s (64 * r) row
+        → RowUpto R S s (64 * (r + 1)) row
     row_no_rule row e f =
-        row_on R S s (64 * r) (64 * (r + 1)) (omega arith) row (λ v c h u b.
+        row_on R S s (64 * r) (64 * (r + 1)) (omega arith) row
+        (λ v c h u b.
         let below : v < 64 = omega (arith, (placed R S h).word, R.terminals63) in
-        may_not v (ap (λ (o : Option WordSet). member o v) e) (subst (λ x. Has R S s v x) (of_rank R S c r rule_low (omega arith)) h)) f
+        may_not v (ap (λ (x : WordSet). has x v) e)
+        (subst (λ x. Has R S s v x) (of_rank R S c r rule_low (omega arith)) h)) f
 
     -- The words of its lookahead, one after the other.
-    pub row_rule : (x : WordSet) (row : Row) (n : ℕ) → n ≤ 64 → entry ≡ Some x → RowUpto R S s (64 * r) row → RowUpto R S s (64 * r + n) (reduced x r n row)
-    row_rule x row zero h e f = subst (λ m. RowUpto R S s m (reduced x r 0 row)) (let z : 64 * r ≡ 64 * r + 0 = omega arith in z) (subst (λ t. RowUpto R S s (64 * r) t) (sym (reduced_none x r row)) f)
-    row_rule x row (suc n) h e f =
-        let g = row_rule x row n (omega arith) e f in
-        subst (λ m. RowUpto R S s (64 * r + m) (reduced x r m row)) (add-one n)
-        (subst (λ m. RowUpto R S s m (reduced x r (n + 1) row)) (let z : (64 * r + n) + 1 ≡ 64 * r + (n + 1) = omega arith in z)
-        (elim (cases_Bool (has x n)) [
-          | inl b ↦ subst (λ t. RowUpto R S s ((64 * r + n) + 1) t) (sym (reduced_has x r n row b)) (enter R S s r n rule_low (omega arith) (may n (ap (λ (o : Option WordSet). member o n) e ∙ b)) (reduced x r n row) g)
+    pub row_rule : (row : Row) (n : ℕ)
+        → n ≤ 64
+        → RowUpto R S s (64 * r) row
+        → RowUpto R S s (64 * r + n) (reduced entry r n row)
+    row_rule row zero h f =
+        let start : 64 * r ≡ 64 * r + 0 = omega arith in
+        subst (λ m. RowUpto R S s m (reduced entry r 0 row)) start
+        (subst (λ t. RowUpto R S s (64 * r) t) (sym (reduced_none entry r row)) f)
+    row_rule row (suc n) h f =
+        let g = row_rule row n (omega arith) f in
+        let next : (64 * r + n) + 1 ≡ 64 * r + (n + 1) = omega arith in
+        subst (λ m. RowUpto R S s (64 * r + m) (reduced entry r m row)) (add-one n)
+        (subst (λ m. RowUpto R S s m (reduced entry r (n + 1) row)) next
+        (elim (cases_Bool (has entry n)) [
+          | inl b ↦
+              subst (λ t. RowUpto R S s ((64 * r + n) + 1) t) (sym (reduced_has entry r n row b))
+              (enter R S s r n rule_low (omega arith) (may n b) (reduced entry r n row) g)
           | inr b ↦
-              subst (λ t. RowUpto R S s ((64 * r + n) + 1) t) (sym (reduced_lacks x r n row b))
-              (row_on R S s (64 * r + n) ((64 * r + n) + 1) (omega arith) (reduced x r n row) (λ v c k u w.
+              subst (λ t. RowUpto R S s ((64 * r + n) + 1) t) (sym (reduced_lacks entry r n row b))
+              (row_on R S s (64 * r + n) ((64 * r + n) + 1) (omega arith) (reduced entry r n row)
+              (λ v c k u w.
               let below : v < 64 = omega (arith, (placed R S k).word, R.terminals63) in
               let same : v ≡ n = omega arith in
-              may_not n (ap (λ (o : Option WordSet). member o n) e ∙ b) (subst (λ y. Has R S s n y) (of_rank R S c r rule_low (omega arith)) (subst (λ y. Has R S s y c) same k))) g)
+              may_not n b
+              (subst (λ y. Has R S s n y) (of_rank R S c r rule_low (omega arith))
+              (subst (λ y. Has R S s y c) same k))) g)
         ]))

@@ -3,7 +3,8 @@ use Rattle.std.proofs.Common.{◌≡◌, ℕ, ◌+◌, ◌*◌, ◌<◌, ◌≤�
 use Rattle.std.proofs.lemmas.List.{get_or-set_same, get_or-set_other, length-set, length-replicate, get_or-replicate}
 use Rattle.std.proofs.lemmas.Bool.{cases_lt, cases_eq, or_cases, or_left, or_right, false≢true}
 use Rattle.std.proofs.lemmas.Option.{none-some}
-use Rattle.gather.specs.Members.{has, no_members}
+use Rattle.gather.specs.Members.{has, no_members, unite}
+use Rattle.gather.specs.Sets.{has_unite}
 use Rattle.gather.specs.declared.word_set.WordSet.{WordSet}
 use Rattle.grammar.specs.Grammar.{Grammar, IsRule, left_side, right_side}
 use Rattle.grammar.specs.States.{Automaton}
@@ -12,7 +13,7 @@ use Rattle.grammar.proofs.Reductions.{follow_transition}
 use Rattle.tables.specs.declared.rules.Rules.{Rules}
 use Rattle.tables.specs.declared.states.States.{States}
 use Rattle.tables.specs.Arrays.{grammar_of, automaton}
-use Rattle.tables.specs.Lookaheads.{member, lookahead_at, LookaheadsUpto, Lookaheads}
+use Rattle.tables.specs.Lookaheads.{lookahead_at, LookaheadsUpto, Lookaheads}
 use Rattle.tables.specs.Transitions.{transition_at, place_of, FollowAt}
 use Rattle.tables.specs.WordSets.{SetsOf}
 use Rattle.tables.proofs.RuleArrays.{is_rule_lem, rule_high, left_is}
@@ -32,26 +33,39 @@ module _ (R : Rules) (S : States) where
   rule_top : (r : ℕ) → IsRule G r → r ≤ 96
   rule_top r i = omega (arith, rule_high R r i, R.count96)
 
-  abbrev nothing : List (List (Option WordSet))
-  nothing = replicate 96 (replicate 97 None)
+  abbrev nothing : List (List WordSet)
+  nothing = replicate 96 (replicate 97 no_members)
 
-  nothing_at : (s : ℕ) → s < 96 → get_or nothing s [] ≡ replicate 97 None
-  nothing_at s h = get_or-replicate 96 s (replicate 97 None) [] h
+  nothing_at : (s : ℕ) → s < 96 → get_or nothing s [] ≡ replicate 97 no_members
+  nothing_at s h = get_or-replicate 96 s (replicate 97 no_members) [] h
 
   nothing_yet : (s r w : ℕ) → s < 96 → r ≤ 96 → lookahead_at nothing s r w ≡ true → ⊥
   nothing_yet s r w h k e =
-      false≢true (sym (ap (λ (m : List (Option WordSet)). member (get_or m r None) w) (nothing_at s h) ∙ ap (λ (o : Option WordSet). member o w) (get_or-replicate 97 r None None (omega arith))) ∙ e)
+      false≢true
+      (sym (ap (λ (m : List WordSet). has (get_or m r no_members) w) (nothing_at s h)
+      ∙ ap (λ (x : WordSet). has x w)
+      (get_or-replicate 97 r no_members no_members (omega arith))) ∙ e)
 
   pub upto_none : LookaheadsUpto R S 1 nothing
   upto_none = record {
-    states = length-replicate {A = List (Option WordSet)} 96 (replicate 97 None);
-    rules = λ s h. ap length (nothing_at s h) ∙ length-replicate {A = Option WordSet} 97 None;
+    states = length-replicate {A = List WordSet} 96 (replicate 97 no_members);
+    rules = λ s h. ap length (nothing_at s h) ∙ length-replicate {A = WordSet} 97 no_members;
     sound = λ s r w h i e. absurd (nothing_yet s r w h (rule_top r i) e);
     whole = λ p r s w h i. absurd (omega (arith, i.low));
   }
 
   -- Where a state and a rule are left out, as they have nothing to add.
-  pub upto_skip : (n m : ℕ) (l : List (List (Option WordSet))) → n ≤ m → ((p r s w : ℕ) → n ≤ 97 * p + r → 97 * p + r < m → IsRule G r → Leads A p (right_side G r) s → Follow G A (p, left_side G r) w → ⊥) → LookaheadsUpto R S n l → LookaheadsUpto R S m l
+  pub upto_skip : (n m : ℕ) (l : List (List WordSet))
+      → n ≤ m
+      → ((p r s w : ℕ)
+      → n ≤ 97 * p + r
+      → 97 * p + r < m
+      → IsRule G r
+      → Leads A p (right_side G r) s
+      → Follow G A (p, left_side G r) w
+      → ⊥)
+      → LookaheadsUpto R S n l
+      → LookaheadsUpto R S m l
   upto_skip n m l h nay u = record {
     states = u.states;
     rules = u.rules;
@@ -64,7 +78,9 @@ module _ (R : Rules) (S : States) where
   }
 
   -- What is complete.
-  pub upto_all : (l : List (List (Option WordSet))) → LookaheadsUpto R S (97 * S.count + 1) l → Lookaheads R S l
+  pub upto_all : (l : List (List WordSet))
+      → LookaheadsUpto R S (97 * S.count + 1) l
+      → Lookaheads R S l
   upto_all l u = record {
     sound = u.sound;
     whole = λ s r w i a.
@@ -73,7 +89,11 @@ module _ (R : Rules) (S : States) where
   }
 
   -- No rules behind the last.
-  pub last_rule : (q n : ℕ) (l : List (List (Option WordSet))) → R.count + 1 ≤ n → n ≤ R.count + 1 → LookaheadsUpto R S (97 * q + n) l → LookaheadsUpto R S (97 * (q + 1) + 1) l
+  pub last_rule : (q n : ℕ) (l : List (List WordSet))
+      → R.count + 1 ≤ n
+      → n ≤ R.count + 1
+      → LookaheadsUpto R S (97 * q + n) l
+      → LookaheadsUpto R S (97 * (q + 1) + 1) l
   last_rule q n l h k u =
       upto_skip (97 * q + n) (97 * (q + 1) + 1) l (omega (arith, R.count96)) (λ p r s w a b i t f.
       omega (arith, i.low, rule_high R r i, R.count96)) u
@@ -82,7 +102,8 @@ module _ (R : Rules) (S : States) where
   pub end_below : (q r s X : ℕ) (o : Option ℕ) → o ≡ A.goto q X → true ≡ is_some o → Leads A q (right_side G r) s → s < 96
   end_below q r s X o e h w = let t = told_some o (A.goto q X) e h in omega (arith, walk_inside R S (right_side G r) w (goto_moves R S q X t.0 (sym t.1)).from, S.few)
 
-  module _ (q r : ℕ) (low : 1 ≤ r) (high : r ≤ R.count) (l : List (List (Option WordSet))) (u : LookaheadsUpto R S (97 * q + r) l) where
+  module _ (q r : ℕ) (low : 1 ≤ r) (high : r ≤ R.count)
+      (l : List (List WordSet)) (u : LookaheadsUpto R S (97 * q + r) l) where
     abbrev left : ℕ
     left = get_or R.left r 0
 
@@ -127,20 +148,25 @@ module _ (R : Rules) (S : States) where
       follows_here : (w : ℕ) → Follow G A (q, left_side G r) w → has here w ≡ true
       follows_here w f = F.whole (place_of R q left) w (inside R S (q, left) t) (subst (λ x. Follow G A x w) (sym at_left) f)
 
-      module _ (s : ℕ) (a : Leads A q codes s) (below : s < 96) (y : Option WordSet) (e : (w : ℕ) → member y w ≡ (lookahead_at l s r w || has here w)) where
-        abbrev row : List (Option WordSet)
+      module _ (s : ℕ) (a : Leads A q codes s) (below : s < 96)
+          (y : WordSet) (e : y ≡ unite (get_or (get_or l s []) r no_members) here) where
+        abbrev row : List WordSet
         row = get_or l s []
 
-        abbrev new : List (List (Option WordSet))
+        joined : (w : ℕ) → has y w ≡ (lookahead_at l s r w || has here w)
+        joined w = ap (λ (x : WordSet). has x w) e ∙ has_unite (get_or row r no_members) here w
+
+        abbrev new : List (List WordSet)
         new = set l s (set row r y)
 
         row_new : get_or new s [] ≡ set row r y
         row_new = get_or-set_same l s (set row r y) [] (omega (arith, u.states))
 
-        changed : (w : ℕ) → lookahead_at new s r w ≡ member y w
+        changed : (w : ℕ) → lookahead_at new s r w ≡ has y w
         changed w =
-            ap (λ (m : List (Option WordSet)). member (get_or m r None) w) row_new
-            ∙ ap (λ (o : Option WordSet). member o w) (get_or-set_same row r y None (omega (arith, u.rules s below, top)))
+            ap (λ (m : List WordSet). has (get_or m r no_members) w) row_new
+            ∙ ap (λ (x : WordSet). has x w)
+            (get_or-set_same row r y no_members (omega (arith, u.rules s below, top)))
 
         -- This place, or another one.
         this_place : (s' r' : ℕ) → ((s' ≡ s) × (r' ≡ r)) ⊎ (s' ≡ s → r' ≡ r → ⊥)
@@ -155,9 +181,12 @@ module _ (R : Rules) (S : States) where
             elim (cases_eq s' s) [
               | inl e ↦
                   subst (λ t. lookahead_at new t r' w ≡ lookahead_at l t r' w) (sym e)
-                  (ap (λ (m : List (Option WordSet)). member (get_or m r' None) w) row_new
-                  ∙ ap (λ (o : Option WordSet). member o w) (get_or-set_other row r r' y None (apart e)))
-              | inr e ↦ ap (λ (m : List (Option WordSet)). member (get_or m r' None) w) (get_or-set_other l s s' (set row r y) [] e)
+                  (ap (λ (m : List WordSet). has (get_or m r' no_members) w) row_new
+                  ∙ ap (λ (x : WordSet). has x w)
+                  (get_or-set_other row r r' y no_members (apart e)))
+              | inr e ↦
+                  ap (λ (m : List WordSet). has (get_or m r' no_members) w)
+                  (get_or-set_other l s s' (set row r y) [] e)
             ]
 
         -- The old words are still there.
@@ -166,7 +195,10 @@ module _ (R : Rules) (S : States) where
             elim (this_place s' r') [
               | inl k ↦
                   subst (λ t. lookahead_at new t r' w ≡ true) (sym k.0) (subst (λ t. lookahead_at new s t w ≡ true) (sym k.1)
-                  (changed w ∙ e w ∙ or_left _ (has here w) (subst (λ t. lookahead_at l s t w ≡ true) k.1 (subst (λ t. lookahead_at l t r' w ≡ true) k.0 h))))
+                  (changed w ∙ joined w
+                  ∙ or_left _ (has here w)
+                  (subst (λ t. lookahead_at l s t w ≡ true) k.1
+                  (subst (λ t. lookahead_at l t r' w ≡ true) k.0 h))))
               | inr k ↦ kept s' r' w k ∙ h
             ]
 
@@ -176,7 +208,8 @@ module _ (R : Rules) (S : States) where
               | inl k ↦
                   (let h' : lookahead_at new s r w ≡ true = subst (λ t. lookahead_at new s t w ≡ true) k.1 (subst (λ t. lookahead_at new t r' w ≡ true) k.0 h) in
                   subst (λ j. Lookahead G A j r' w) (sym k.0) (subst (λ j. Lookahead G A s j w) (sym k.1)
-                  (elim (or_cases (lookahead_at l s r w) (has here w) (sym (changed w ∙ e w) ∙ h')) [
+                  (let either = sym (changed w ∙ joined w) ∙ h' in
+                  elim (or_cases (lookahead_at l s r w) (has here w) either) [
                     | inl old ↦ u.sound s r w below this old
                     | inr add ↦ record { back = q; leads = a; follow = here_follows w add }
                   ])))
@@ -207,6 +240,6 @@ module _ (R : Rules) (S : States) where
                     let f' : Follow G A (q, left_side G r) w = subst (λ m. Follow G A (q, left_side G m) w) er (subst (λ m. Follow G A (m, left_side G r') w) ep f) in
                     let es : s ≡ s' = leads_once a v' in
                     subst (λ j. lookahead_at new j r' w ≡ true) es (subst (λ j. lookahead_at new s j w ≡ true) (sym er)
-                    (changed w ∙ e w ∙ or_right _ (has here w) (follows_here w f'))))
+                    (changed w ∙ joined w ∙ or_right _ (has here w) (follows_here w f'))))
               ];
         }

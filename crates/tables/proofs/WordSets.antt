@@ -1,5 +1,5 @@
 -- Word sets filled word by word, and lists of them place by place.
-use Rattle.std.proofs.Common.{◌≡◌, ℕ, ◌+◌, ◌<◌, true, false, ◌&&◌, ◌||◌, eqb, ltb, List, length, get_or, set, sym, ◌∙◌, subst, inl, inr, arith}
+use Rattle.std.proofs.Common.{◌≡◌, ℕ, ◌+◌, ◌<◌, true, false, ◌&&◌, ◌||◌, eqb, ltb, List, length, get_or, set, refl, sym, ◌∙◌, subst, inl, inr, arith}
 use Rattle.std.proofs.lemmas.List.{get_or-set_same, get_or-set_other}
 use Rattle.std.proofs.lemmas.Bool.{cases_eq, and_parts, and_from, eqb-true, eq-eqb, lt-ltb, or_cases, or_left, or_right, both_ways}
 use Rattle.gather.specs.Members.{has, no_members}
@@ -8,8 +8,11 @@ use Rattle.tables.specs.WordSets.{WordsBelow, SetsOf}
 
 module _ (P : ℕ → Type 0) where
   -- No words yet.
-  pub words_none : (x : WordSet) → ((w : ℕ) → has x w ≡ false) → WordsBelow P 0 x
-  words_none x e = record { sound = λ w h. absurd (both_ways (has x w) (e w) h); whole = λ w l p. absurd (omega arith) }
+  pub words_none : WordsBelow P 0 no_members
+  words_none = record {
+    sound = λ w h. absurd (both_ways false refl h);
+    whole = λ w l p. absurd (omega arith);
+  }
 
   -- The end mark alone.
   pub words_one : (x : WordSet) → ((w : ℕ) → has x w ≡ eqb w 0) → P 0 → WordsBelow P 1 x

@@ -7,7 +7,7 @@ ghost use Rattle.tables.specs.RowMeaning.{RowUpto};
 use super::build_refusal::BuildRefusal;
 use super::machine::Machine;
 use super::row::Row;
-use gather::WordSet;
+use gather::{Join, WordSet};
 use grammar::Action;
 
 // The loops over rules and words go by number: the machine is asked by both, and the cells tell both.
@@ -32,14 +32,16 @@ fn moves(machine: &Machine, state: usize) -> Row
 }
 
 // The row of a state, with its reductions.
-fn fill_row(machine: &Machine, lookaheads: &[[Option<WordSet>; 97]; 96], state: usize) -> Row
+fn fill_row(machine: &Machine, lookaheads: &[[WordSet; 97]; 96], state: usize) -> Row
     requires state { state < machine.now.states.count }
     requires lookaheads { Lookaheads machine.now.rules machine.now.states lookaheads.now }
     ensures { RowUpto machine.now.rules machine.now.states state (64 * (machine.now.rules.count + 1)) result }
 {
     let mut row = moves(machine, state);
     for rule in 1..machine.rules.count + 1 {
-        if let Some(lookahead) = lookaheads[state][usize::from(rule)] {
+        let lookahead = lookaheads[state][usize::from(rule)];
+        // Most rules are not complete in the state.
+        if lookahead != WordSet::NONE {
             row.reduce(rule, lookahead, machine.rules.terminals + 1);
         }
     }
@@ -50,7 +52,7 @@ fn fill_row(machine: &Machine, lookaheads: &[[Option<WordSet>; 97]; 96], state: 
 #[inline(never)]
 pub(crate) fn fill(
     machine: &Machine,
-    lookaheads: &[[Option<WordSet>; 97]; 96],
+    lookaheads: &[[WordSet; 97]; 96],
 ) -> Result<[[Option<Action>; 64]; 96], BuildRefusal>
     requires { Lookaheads machine.now.rules machine.now.states lookaheads.now }
     ensures { Filled machine.now.rules machine.now.states result }

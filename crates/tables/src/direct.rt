@@ -3,7 +3,7 @@ ghost use Rattle.tables.specs.Transitions.{DirectAt, DirectIn};
 ghost use Rattle.tables.specs.WordSets.{SetsOf, WordsBelow};
 
 use super::machine::Machine;
-use gather::WordSet;
+use gather::{Join, WordSet};
 
 // The words by which a state moves, and the end mark where rule 0 has its dot before it.
 fn direct_words(machine: &Machine, state: usize) -> WordSet
@@ -12,7 +12,7 @@ fn direct_words(machine: &Machine, state: usize) -> WordSet
     let mut words = if machine.has_item(state, 0, 1) {
         WordSet::one(0)
     } else {
-        WordSet::empty()
+        WordSet::NONE
     };
     // By number: the state is asked by the word, and the word becomes the member.
     for word in 1..usize::from(machine.rules.terminals) + 1 {
@@ -27,7 +27,7 @@ fn direct_words(machine: &Machine, state: usize) -> WordSet
 fn direct_by_state(machine: &Machine) -> [WordSet; 96]
     ensures { SetsOf (DirectIn machine.now.rules machine.now.states) 96 result }
 {
-    let mut sets = [WordSet::empty(); 96];
+    let mut sets = [WordSet::NONE; 96];
     for (state, words) in sets.iter_mut().enumerate() {
         *words = direct_words(machine, state);
     }
@@ -41,7 +41,7 @@ fn direct_behind(machine: &Machine, direct: &[WordSet; 96], place: usize) -> Wor
 {
     machine
         .behind(place)
-        .map_or(WordSet::empty(), |state| direct[state])
+        .map_or(WordSet::NONE, |state| direct[state])
 }
 
 // The direct words behind all transitions, by place.
@@ -49,7 +49,7 @@ pub(crate) fn direct_by_place(machine: &Machine) -> [WordSet; 2304]
     ensures { SetsOf (DirectAt machine.now.rules machine.now.states) 2304 result }
 {
     let direct = direct_by_state(machine);
-    let mut sets = [WordSet::empty(); 2304];
+    let mut sets = [WordSet::NONE; 2304];
     for (place, words) in sets.iter_mut().enumerate() {
         *words = direct_behind(machine, &direct, place);
     }

@@ -1,9 +1,9 @@
 // The lookahead of each rule in each state.
-ghost use Rattle.std.specs.Prelude.{◌≡◌, ℕ, ◌+◌, ◌*◌, ◌≤◌, ◌||◌, None, replicate};
-ghost use Rattle.gather.specs.Members.{has};
+ghost use Rattle.std.specs.Prelude.{◌≡◌, ◌+◌, ◌*◌, ◌≤◌, replicate};
+ghost use Rattle.gather.specs.Members.{no_members};
 ghost use Rattle.tables.specs.Arrays.{grammar_of};
 ghost use Rattle.tables.specs.Groups.{IncludesGrouped};
-ghost use Rattle.tables.specs.Lookaheads.{Lookaheads, LookaheadsUpto, member};
+ghost use Rattle.tables.specs.Lookaheads.{Lookaheads, LookaheadsUpto};
 ghost use Rattle.tables.specs.NullableMarks.{NullableMarks};
 ghost use Rattle.tables.specs.Transitions.{FollowAt};
 ghost use Rattle.tables.specs.WordSets.{SetsOf};
@@ -16,7 +16,7 @@ use super::nullable::nullable;
 use super::reads::Reads;
 use super::step::Step;
 use bounded::BoundedList;
-use gather::{WordSet, gather};
+use gather::{Join, WordSet, gather};
 
 // The loops go by the numbers of states and rules: the machine is asked by both, and the sets go by both.
 
@@ -60,20 +60,14 @@ pub(crate) fn follow_sets(machine: &Machine) -> [WordSet; 2304]
     gathered_sets(machine, &null, &includes)
 }
 
-// The words of both sets, the first of which may be missing.
-fn joined(old: Option<WordSet>, more: WordSet) -> Option<WordSet>
-    ensures { (w : ℕ) → member result w ≡ (member old w || has more w) }
-{
-    Some(old.map_or(more, |set| set.union(more)))
-}
-
-// Adds the follow set of a rule's left side in a state to the lookahead of the rule where its right side ends.
+// Joins the follow set of a rule's left side in a state into the lookahead of the rule where its
+// right side ends.
 fn add_follow(
     machine: &Machine,
     follow: &[WordSet; 2304],
     state: usize,
     rule: usize,
-    sets: &mut [[Option<WordSet>; 97]; 96],
+    sets: &mut [[WordSet; 97]; 96],
 )
     requires rule { (1 ≤ rule) × (rule ≤ machine.now.rules.count) }
     requires follow { SetsOf (FollowAt machine.now.rules machine.now.states) 2304 follow.now }
@@ -84,17 +78,17 @@ fn add_follow(
     if machine.goto(state, usize::from(left)).is_some() {
         if let Some(end) = machine.walk(state, rule) {
             let words = follow[usize::from(machine.place(state, left))];
-            sets[end][rule] = joined(sets[end][rule], words);
+            sets[end][rule] = sets[end][rule].join(words);
         }
     }
 }
 
-// Adds what comes from the rules in a state.
+// Joins in what comes from the rules in a state.
 fn add_follows(
     machine: &Machine,
     follow: &[WordSet; 2304],
     state: usize,
-    sets: &mut [[Option<WordSet>; 97]; 96],
+    sets: &mut [[WordSet; 97]; 96],
 )
     requires follow { SetsOf (FollowAt machine.now.rules machine.now.states) 2304 follow.now }
     requires upto { LookaheadsUpto machine.now.rules machine.now.states (97 * state + 1) sets.old }
@@ -105,15 +99,16 @@ fn add_follows(
     }
 }
 
-// Sets the lookaheads by state and rule, in sets that the caller lends; none where the rule is not complete in the state.
+// Joins the lookaheads by state and rule into sets that the caller lends, which have no members.
+// A rule that is not complete in a state has none there.
 #[inline(never)]
 pub(crate) fn look_ahead(
     machine: &Machine,
     follow: &[WordSet; 2304],
-    sets: &mut [[Option<WordSet>; 97]; 96],
+    sets: &mut [[WordSet; 97]; 96],
 )
     requires follow { SetsOf (FollowAt machine.now.rules machine.now.states) 2304 follow.now }
-    requires none { sets.old ≡ replicate 96 (replicate 97 None) }
+    requires none { sets.old ≡ replicate 96 (replicate 97 no_members) }
     ensures { Lookaheads machine.now.rules machine.now.states sets.new }
 {
     for state in 0..machine.states.count {

@@ -17,7 +17,7 @@ use super::numbering::number;
 use super::rules::Rules;
 use super::states::States;
 use super::useful::useless;
-use gather::WordSet;
+use gather::{Join, WordSet};
 use grammar::Action;
 use sheet::RuleSheet;
 
@@ -53,7 +53,7 @@ fn cells_of(
     requires { SetsOf (FollowAt machine.now.rules machine.now.states) 2304 follow.now }
     ensures { Filled machine.now.rules machine.now.states result }
 {
-    let mut sets = [[None; 97]; 96];
+    let mut sets = [[WordSet::NONE; 97]; 96];
     look_ahead(machine, follow, &mut sets);
     fill(machine, &sets)
 }

@@ -10,8 +10,12 @@ map_or-requires c x e = let m = c.args.machine.now in let low = behind_place m.r
 pub returns : goal.returns
 returns c =
     let m = c.args.machine.now in
-    words_told m.rules m.states c.args.direct.now c.empty.result c.args.place c.behind.result c.map_or.result c.requires c.empty.ensures c.behind.ensures (by c.behind.result refl)
+    words_told m.rules m.states c.args.direct.now c.args.place c.behind.result c.map_or.result
+    c.requires c.behind.ensures (by c.behind.result refl)
   where
-    by : (o : Option ℕ) → c.behind.result ≡ o → MatchOption o (c.map_or.result ≡ c.empty.result) (λ t. c.map_or.result ≡ get_or c.args.direct.now t no_members)
+    by : (o : Option ℕ)
+        → c.behind.result ≡ o
+        → MatchOption o (c.map_or.result ≡ no_members)
+        (λ t. c.map_or.result ≡ get_or c.args.direct.now t no_members)
     by None e = search rules
     by (Some t) e = search rules

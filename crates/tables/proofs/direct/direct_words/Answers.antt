@@ -1,5 +1,5 @@
 use Rattle.std.proofs.Common.{◌+◌, ◌||◌, sym, ap, ◌∙◌, subst, arith}
-use Rattle.gather.specs.Members.{has}
+use Rattle.gather.specs.Members.{has, no_members}
 use Rattle.grammar.specs.Lookahead.{next_end}
 use Rattle.tables.specs.Arrays.{automaton}
 use Rattle.tables.specs.Transitions.{DirectIn}
@@ -40,5 +40,7 @@ loop-word-init c =
       | then-has_item v ↦ subst (λ x. WordsBelow (DirectIn m.rules m.states s) 1 x) (sym v.words-is) (words_one (DirectIn m.rules m.states s) v.one-words.result v.one-words.ensures (next_end (sym v.if-has_item.ensures)))
       | else-has_item v ↦
           subst (λ x. WordsBelow (DirectIn m.rules m.states s) 1 x) (sym v.words-is)
-          (words_skip (DirectIn m.rules m.states s) 0 v.empty-words.result (no_direct_end m.rules m.states s (sym v.if-has_item.ensures)) (words_none (DirectIn m.rules m.states s) v.empty-words.result v.empty-words.ensures))
+          (words_skip (DirectIn m.rules m.states s) 0 no_members
+          (no_direct_end m.rules m.states s (sym v.if-has_item.ensures))
+          (words_none (DirectIn m.rules m.states s)))
     ]

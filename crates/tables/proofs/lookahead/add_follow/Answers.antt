@@ -1,7 +1,6 @@
-use Rattle.std.proofs.Common.{◌≡◌, ◌||◌, get_or, ap, ◌∙◌, subst, arith}
-use Rattle.gather.specs.Members.{has, no_members}
+use Rattle.std.proofs.Common.{◌≡◌, [], get_or, ap, ◌∙◌, subst, arith}
+use Rattle.gather.specs.Members.{no_members, unite}
 use Rattle.tables.specs.Arrays.{automaton}
-use Rattle.tables.specs.Lookaheads.{member, lookahead_at}
 use Rattle.tables.proofs.Answered.{told_some, told_none}
 use Rattle.tables.proofs.Lookaheads.{add, end_below, no_move, no_walk}
 use Rattle.tables.proofs.Transitions.{transition}
@@ -38,8 +37,12 @@ returns-in-Some c =
     let t = told_some c.goto.result (goes X) (c.goto.ensures ∙ ap goes c.from.ensures) c.if-is_some.ensures in
     let to = transition m.rules m.states q X t.0 (m.rules.lefts r c.requires.rule.0 c.requires.rule.1) t.1 in
     let below = end_below m.rules m.states q r s c.from.result c.goto.result c.goto.ensures c.if-is_some.ensures c.in-Some.ensures in
-    add m.rules m.states q r c.requires.rule.0 c.requires.rule.1 c.args.sets.now c.requires.upto c.args.follow.now c.requires.follow to s c.in-Some.ensures below c.joined.result
-    (λ w. subst (λ i. member c.joined.result w ≡ (lookahead_at c.args.sets.now s r w || has (get_or c.args.follow.now i no_members) w)) (c.from-in-Some.ensures ∙ c.place.ensures.is) (c.joined.ensures w))
+    add m.rules m.states q r c.requires.rule.0 c.requires.rule.1 c.args.sets.now c.requires.upto
+    c.args.follow.now c.requires.follow to s c.in-Some.ensures below c.join.result
+    (subst (λ i. c.join.result
+    ≡ unite (get_or (get_or c.args.sets.now s []) r no_members)
+    (get_or c.args.follow.now i no_members))
+    (c.from-in-Some.ensures ∙ c.place.ensures.is) c.join.ensures)
 
 pub returns-in_default : goal.returns-in_default
 returns-in_default c =

@@ -53,7 +53,15 @@ fold-requires-clause-few g t c =
 
 pub loop-target-preserved-then-target-self : goal.loop-target-preserved-then-target-self
 loop-target-preserved-then-target-self g t c =
-    let went : (seeds : List g.row.J.Denot) → Turn g.J.Join.none g.J.Join.op (g.R.Relation.targets c.args.relation.now) seeds (snap c.args.self.now) (snap c.loop-target.self) c.args.place (top (snap c.args.self.now)) c.loop-target.target-iterator.k → Step (length seeds) (g.R.Relation.targets c.args.relation.now) c.args.place c.in-Some.target → Joint g.J.Join.none g.J.Join.op (g.R.Relation.targets c.args.relation.now) seeds (snap c.args.self.now) (snap c.if-eq.self) c.args.place (top (snap c.args.self.now)) c.loop-target.target-iterator.k (top (snap c.loop-target.self)) c.in-Some.target =
+    let went : (seeds : List g.row.J.Denot)
+    → Turn g.J.Join.NONE g.J.Join.op (g.R.Relation.targets c.args.relation.now) seeds
+    (snap c.args.self.now) (snap c.loop-target.self)
+    c.args.place (top (snap c.args.self.now)) c.loop-target.target-iterator.k
+    → Step (length seeds) (g.R.Relation.targets c.args.relation.now) c.args.place c.in-Some.target
+    → Joint g.J.Join.NONE g.J.Join.op (g.R.Relation.targets c.args.relation.now) seeds
+    (snap c.args.self.now) (snap c.if-eq.self)
+    c.args.place (top (snap c.args.self.now)) c.loop-target.target-iterator.k
+    (top (snap c.loop-target.self)) c.in-Some.target =
     elim c.if-eq.branch [
       | then-eq w ↦
           (let fresh : visit (snap c.loop-target.self) c.in-Some.target ≡ Unseen = search rules in
@@ -101,7 +109,8 @@ returns-then-eq-2 g t c =
     let it = c.loop-target.invariant in
     let all = nth_none (g.R.Relation.targets c.args.relation.now c.args.place) c.loop-target.target-iterator.k (listed_at g.R.Relation.targets c.loop-target.target-iterator.k it.relation it.place c.in-None.ensures.steps.0) in
     λ seeds s. closed (laws g) (it.turn seeds s) all (root ∙ ap Open c.height-height.ensures)
-    (subst (λ h. LeftStack g.J.Join.none (value g.J.Join.none (snap c.loop-target.self) c.args.place) h (snap c.loop-target.self) (snap c.close.new.self)) c.height-height.ensures c.close.ensures) s
+    (subst (λ h. LeftStack g.J.Join.NONE (value g.J.Join.NONE (snap c.loop-target.self) c.args.place)
+    h (snap c.loop-target.self) (snap c.close.new.self)) c.height-height.ensures c.close.ensures) s
 
 pub returns-else-eq-2 : goal.returns-else-eq-2
 returns-else-eq-2 g t c =

@@ -12,5 +12,8 @@ invariant-loop-target g l = record {
   finite : (goal.iterator-loop-target g).is_finite l.target-iterator;
   relation : l.target-iterator.relation.now ≡ l.relation;
   place : l.target-iterator.place ≡ l.place;
-  turn : (seeds : List _) → Sound g.J.Join.none g.J.Join.op (g.R.Relation.targets l.relation) seeds (snap l.fn.self) → Turn g.J.Join.none g.J.Join.op (g.R.Relation.targets l.relation) seeds (snap l.fn.self) (snap l.self) l.place (top (snap l.fn.self)) l.target-iterator.k;
+  turn : (seeds : List _)
+      → Sound g.J.Join.NONE g.J.Join.op (g.R.Relation.targets l.relation) seeds (snap l.fn.self)
+      → Turn g.J.Join.NONE g.J.Join.op (g.R.Relation.targets l.relation) seeds
+      (snap l.fn.self) (snap l.self) l.place (top (snap l.fn.self)) l.target-iterator.k;
 }

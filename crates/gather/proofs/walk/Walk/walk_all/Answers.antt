@@ -31,4 +31,6 @@ loop-place-preserved g c =
 pub returns-clause-gathered : goal.returns-clause-gathered
 returns-clause-gathered g c =
     let all : c.loop-place.place ≡ length c.args.self.now.values.now = omega arith in
-    finish (laws g) (subst (λ i. Between g.J.Join.none g.J.Join.op (g.R.Relation.targets c.args.relation.now) c.args.self.now.values.now (snap c.loop-place.self) i) all c.loop-place.invariant.between)
+    finish (laws g)
+    (subst (λ i. Between g.J.Join.NONE g.J.Join.op (g.R.Relation.targets c.args.relation.now)
+    c.args.self.now.values.now (snap c.loop-place.self) i) all c.loop-place.invariant.between)
