@@ -2,7 +2,8 @@
 use Rattle.std.specs.Prelude.{◌≡◌, ℕ, ◌+◌, ◌-◌, ◌≤◌, List, [], ◌∷◌, ◌++◌, map, length, take}
 use Rattle.bounded.specs.BoundedList.{listed}
 use Rattle.grammar.specs.Grammar.{AllCodes, Grammar, IsNonterminal, Rule}
-use Rattle.grammar.specs.Refusals.{Told, number}
+use Rattle.grammar.specs.Refusals.{Told}
+use Rattle.sheet.specs.AddRefusals.{limits_told, range_told}
 use Rattle.sheet.specs.ShortRules.{rule_of}
 use Rattle.sheet.specs.declared.supplement.Supplement.{Supplement}
 
@@ -24,8 +25,8 @@ InRange G left codes = IsNonterminal G left × AllCodes G codes
 
 -- What a refusal tells: 3 past a limit, else 4 with the number that the rule would have had.
 pub data NotAdded (G : Grammar) (own left : ℕ) (codes : List ℕ) : Told → Type 0 where
-  limits : (WithinLimits G own codes → ⊥) → NotAdded G own left codes (record { number = 3; values = [] })
-  range : WithinLimits G own codes → (InRange G left codes → ⊥) → NotAdded G own left codes (record { number = 4; values = number (length G.rules + 1) ∷ [] })
+  limits : (WithinLimits G own codes → ⊥) → NotAdded G own left codes limits_told
+  range : WithinLimits G own codes → (InRange G left codes → ⊥) → NotAdded G own left codes (range_told (length G.rules + 1))
 
 module _ {S : Type 0} where
   -- The rules of its own.

@@ -1,12 +1,12 @@
 use Rattle.std.proofs.Common.{◌≡◌, ◌+◌, ◌≤◌, ◌≢◌, ◌∷◌, [], length, is_ok, refl, sym, subst, ap, ◌∙◌, arith, rules}
 use Rattle.std.proofs.lemmas.Bool.{true≢false}
 use Rattle.std.proofs.lemmas.Result.{err_from_is_err_and}
-use Rattle.grammar.specs.declared.refusal.Refusal.TheVariants.{Limits}
+use Rattle.sheet.specs.declared.add_refusal.AddRefusal.TheVariants.{Limits}
 use Rattle.std.proofs.lemmas.Bool.Decides.{not_from_Decides}
 use Rattle.std.proofs.lemmas.List.{length-map}
 use Rattle.bounded.specs.BoundedList.{listed}
 use Rattle.bounded.proofs.Listed.{listed_fits}
-use Rattle.grammar.specs.Refusals.{number}
+use Rattle.sheet.specs.AddRefusals.{range_told}
 use Rattle.sheet.specs.ShortRules.{rule_of}
 use Rattle.sheet.specs.Supplements.{NotAdded, own_rules, supplemented}
 use Rattle.sheet.specs.Supplements.NotAdded.{limits, range}
@@ -33,5 +33,5 @@ returns-then-not-in_range-clause-refused g c =
     let own = listed c.args.self.now.own in
     let not_full : length own ≢ 16 = λ e. cc (c.if-is_full.ensures.1 e) in
     let room : length (own_rules c.args.self.now) + 1 ≤ 16 = omega (arith, not_full, listed_fits c.args.self.now.own, length-map own rule_of) in
-    subst (λ n. NotAdded G (length (own_rules c.args.self.now)) c.args.left c.args.codes.now (record { number = 4; values = number (n + 1) ∷ [] })) (sym c.rules-rules.ensures)
+    subst (λ n. NotAdded G (length (own_rules c.args.self.now)) c.args.left c.args.codes.now (range_told (n + 1))) (sym c.rules-rules.ensures)
     (range (omega arith, room, c.with_codes.ensures.short.0 (sym c.map_err.ensures.variant ∙ ap is_ok c.in_ok-rule.was)) (not_from_Decides c.in_range.result c.in_range.ensures c.if-not-in_range.true))
