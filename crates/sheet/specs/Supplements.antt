@@ -37,9 +37,24 @@ module _ {S : Type 0} where
   abbrev pub supplemented : (S → Grammar) → Supplement S → Grammar
   supplemented below x = with_rules (below x.sheet) (own_rules x)
 
--- The rule is added behind the others.
+-- The rule is added behind the others, over the same sheet.
 pub record Added {S : Type 0} (below : S → Grammar) (before : Supplement S) (left : ℕ) (codes : List ℕ) (after : Supplement S) : Type 0 where
   pub limits : WithinLimits (supplemented below before) (length (own_rules before)) codes
   pub range : InRange (supplemented below before) left codes
+  pub sheet : after.sheet ≡ before.sheet
   pub appended : supplemented below after ≡ with_rule (supplemented below before) left codes
   pub own : own_rules after ≡ own_rules before ++ record { left = left; right = codes } ∷ []
+
+module _ {S : Type 0} (below : S → Grammar) where
+  -- The rules are those below and all of its own: none is cut off at 96.
+  abbrev pub Uncut : Supplement S → Type 0
+  Uncut x = (supplemented below x).rules ≡ (below x.sheet).rules ++ own_rules x
+
+  -- Made of a sheet alone, and then by adding rules.
+  pub data Made : Supplement S → Type 0 where
+    alone : {x : Supplement S} → own_rules x ≡ [] → Made x
+    added : {x y : Supplement S} {left : ℕ} {codes : List ℕ} → Made x → Added below x left codes y → Made y
+
+  -- Of what was made so nothing is ever cut off.
+  abbrev pub NeverCut : Type 0
+  NeverCut = (x : Supplement S) → Made x → Uncut x

@@ -1,6 +1,7 @@
 ghost use Rattle.sheet.specs.AddRefusals.{told};
 ghost use Rattle.std.specs.Prelude.{◌≡◌};
 
+use bounded::Full;
 use std::error::Error;
 use std::fmt;
 
@@ -43,3 +44,15 @@ impl fmt::Display for AddRefusal {
 }
 
 impl Error for AddRefusal {}
+
+// What does not fit is outside the limits.
+impl From<Full> for AddRefusal {
+    ghost use Rattle.sheet.specs.AddRefusals.{limits_told, told};
+    ghost use Rattle.std.specs.Prelude.{◌≡◌};
+
+    ghost from_gives = { λ _ r. told r ≡ limits_told };
+
+    fn from(_full: Full) -> AddRefusal {
+        AddRefusal::Limits
+    }
+}

@@ -15,4 +15,4 @@ pub use packed_refusal::PackedRefusal;
 pub use packing::pack;
 pub use rule_sheet::RuleSheet;
 pub use short_rule::ShortRule;
-pub use supplement::Supplement;
+pub use supplement::{Supplement, never_cut};

@@ -3,7 +3,7 @@ ghost use Rattle.grammar.specs.Grammar.{AllCodes};
 ghost use Rattle.sheet.specs.AddRefusals.{told};
 ghost use Rattle.sheet.specs.Readings.{rule_told};
 ghost use Rattle.sheet.specs.ShortRules.{rule_of};
-ghost use Rattle.sheet.specs.Supplements.{Added, InRange, NotAdded, own_rules, supplemented};
+ghost use Rattle.sheet.specs.Supplements.{Added, InRange, NeverCut, NotAdded, Uncut, own_rules, supplemented};
 
 use super::add_refusal::AddRefusal;
 use super::rule_sheet::RuleSheet;
@@ -22,6 +22,7 @@ impl<S: RuleSheet> Supplement<S> {
     pub fn new(sheet: S) -> Supplement<S>
         ensures means { supplemented S.RuleSheet.meaning result ≡ S.RuleSheet.meaning sheet }
         ensures none { own_rules result ≡ [] }
+        ensures uncut { Uncut S.RuleSheet.meaning result }
     {
         Supplement {
             sheet,
@@ -41,16 +42,18 @@ impl<S: RuleSheet> Supplement<S> {
         ensures added { OnOk result (Added S.RuleSheet.meaning self.old left codes.now self.new) }
         ensures refused { IfErr result (λ e. NotAdded (supplemented S.RuleSheet.meaning self.old) (length (own_rules self.old)) left codes.now (told e)) }
         ensures unchanged { OnErr result (self.new ≡ self.old) }
+        ensures uncut { Uncut S.RuleSheet.meaning self.old → Uncut S.RuleSheet.meaning self.new }
     {
         let rules = self.rules();
         if rules >= 96 || self.own.is_full() {
             return Err(AddRefusal::Limits);
         }
-        let rule = ShortRule::with_codes(left, codes).map_err(|_| AddRefusal::Limits)?;
+        let rule = ShortRule::with_codes(left, codes)?;
         if !in_range(self, left, codes) {
             return Err(AddRefusal::Range { rule: rules + 1 });
         }
-        self.own.push(rule).map_err(|_| AddRefusal::Limits)
+        self.own.push(rule)?;
+        Ok(())
     }
 
     // The rule with this number, if it is one of its own.
@@ -120,4 +123,12 @@ impl<S: RuleSheet> RuleSheet for Supplement<S> {
             None => self.sheet.code(rule, place),
         }
     }
+}
+
+// A theorem: of what `new` and then `add` made nothing is cut off.
+pub fn never_cut<S: RuleSheet>() -> u8
+    ensures law { NeverCut S.RuleSheet.meaning }
+    ensures answer { result ≡ 0 }
+{
+    0
 }
