@@ -26,7 +26,9 @@ InRange G left codes = IsNonterminal G left × AllCodes G codes
 -- What a refusal tells: 3 past a limit, else 4 with the number that the rule would have had.
 pub data NotAdded (G : Grammar) (own left : ℕ) (codes : List ℕ) : Told → Type 0 where
   limits : (WithinLimits G own codes → ⊥) → NotAdded G own left codes limits_told
-  range : WithinLimits G own codes → (InRange G left codes → ⊥) → NotAdded G own left codes (range_told (length G.rules + 1))
+  range : WithinLimits G own codes
+      → (InRange G left codes → ⊥)
+      → NotAdded G own left codes (range_told (length G.rules + 1))
 
 module _ {S : Type 0} where
   -- The rules of its own.
@@ -53,7 +55,10 @@ module _ {S : Type 0} (below : S → Grammar) where
   -- Made of a sheet alone, and then by adding rules.
   pub data Made : Supplement S → Type 0 where
     alone : {x : Supplement S} → own_rules x ≡ [] → Made x
-    added : {x y : Supplement S} {left : ℕ} {codes : List ℕ} → Made x → Added below x left codes y → Made y
+    added : {x y : Supplement S} {left : ℕ} {codes : List ℕ}
+        → Made x
+        → Added below x left codes y
+        → Made y
 
   -- Of what was made so nothing is ever cut off.
   abbrev pub NeverCut : Type 0

@@ -91,7 +91,10 @@ fn check_layout(numbers: &[u16]) -> Result<(), PackedRefusal>
 fn bodies_end(numbers: &[u16], contents: &[u16]) -> Result<usize, PackedRefusal>
     requires listed { 3 + stated numbers.now ≤ length numbers.now }
     requires contents { contents.now ≡ take (stated numbers.now) (drop 3 numbers.now) }
-    ensures { MatchResult result (λ end. (end < length numbers.now → Refused numbers.now (off_told (stated numbers.now + 1))) × (length numbers.now ≤ end → InLayout numbers.now)) (λ e. Refused numbers.now (told e)) }
+    ensures { MatchResult result
+        (λ end. (end < length numbers.now → Refused numbers.now (off_told (stated numbers.now + 1)))
+        × (length numbers.now ≤ end → InLayout numbers.now))
+        (λ e. Refused numbers.now (told e)) }
 {
     let mut at = 3 + contents.len();
     for (rule, place) in contents.iter().enumerate() {

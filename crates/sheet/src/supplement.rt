@@ -3,7 +3,8 @@ ghost use Rattle.grammar.specs.Grammar.{AllCodes};
 ghost use Rattle.sheet.specs.AddRefusals.{told};
 ghost use Rattle.sheet.specs.Readings.{rule_told};
 ghost use Rattle.sheet.specs.ShortRules.{rule_of};
-ghost use Rattle.sheet.specs.Supplements.{Added, InRange, NeverCut, NotAdded, Uncut, own_rules, supplemented};
+ghost use Rattle.sheet.specs.Supplements.{Added, InRange, NotAdded, own_rules, supplemented};
+ghost use Rattle.sheet.specs.Supplements.{NeverCut, Uncut};
 
 use super::add_refusal::AddRefusal;
 use super::rule_sheet::RuleSheet;
