@@ -1,15 +1,18 @@
 -- What is said of a sheet that does not open.
-use Rattle.std.specs.Prelude.{ℕ, List, Option, Some, None, ◌++◌, codes, if◌then◌else◌, length, nat_lt}
-use Rattle.grammar.specs.declared.refusal.Refusal.{Refusal}
-use Rattle.grammar.specs.declared.refusal.Refusal.TheVariants.{Form, Limits as OutsideLimits}
+use Rattle.std.specs.Prelude.{ℕ, ◌<◌, ◌≤◌, List, ◌++◌, codes, length}
+use Rattle.grammar.specs.Refusals.{Told}
+use Rattle.written.specs.WrittenRefusals.{form_told, limits_told}
 use Rattle.explain.specs.declared.explanation.Explanation.{Explanation}
 use Rattle.explain.specs.declared.explanation.Explanation.TheVariants.{Unfinished, Misplaced, Limits}
 use Rattle.explain.specs.Positions.{position_of, position_text}
 
-abbrev pub explanation_of : List ℕ → Refusal → Option Explanation
-explanation_of text (Form place) = Some (if nat_lt place (length text) then Misplaced (position_of text place) else Unfinished)
-explanation_of _ OutsideLimits = Some Limits
-explanation_of _ _ = None
+-- How what a refusal tells is explained: 2 with its place, which may be the text's end, and 3.
+pub data Explains (text : List ℕ) : Told → Explanation → Type 0 where
+  misplaced : {place : ℕ}
+      → place < length text
+      → Explains text (form_told place) (Misplaced (position_of text place))
+  unfinished : {place : ℕ} → length text ≤ place → Explains text (form_told place) Unfinished
+  limits : Explains text limits_told Limits
 
 abbrev pub explanation_text : Explanation → List ℕ
 explanation_text Unfinished = codes "the sheet ends before its last statement does"

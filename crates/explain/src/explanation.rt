@@ -1,8 +1,6 @@
-ghost use Rattle.std.specs.Prelude.{◌≡◌};
-
 use super::position::Position;
-use grammar::Refusal;
 use std::fmt;
+use written::WrittenRefusal;
 
 // Why a written sheet does not open.
 #[derive(Clone, Copy, PartialEq, Eq, Debug)]
@@ -16,19 +14,19 @@ pub enum Explanation {
 }
 
 impl Explanation {
-    ghost use Rattle.explain.specs.Explanations.{explanation_of};
+    ghost use Rattle.explain.specs.Explanations.{Explains};
+    ghost use Rattle.written.specs.WrittenRefusals.{told};
 
-    // None of a refusal that no opening gives.
-    pub fn of(text: &[u8], refusal: Refusal) -> Option<Explanation>
-        ensures { result ≡ explanation_of text.now refusal }
+    // How the refusal of a text is explained.
+    pub fn of(text: &[u8], refusal: WrittenRefusal) -> Explanation
+        ensures { Explains text.now (told refusal) result }
     {
         match refusal {
-            Refusal::Form { place } if place < text.len() => {
-                Some(Explanation::Misplaced(Position::of(text, place)))
+            WrittenRefusal::Form { place } if place < text.len() => {
+                Explanation::Misplaced(Position::of(text, place))
             }
-            Refusal::Form { .. } => Some(Explanation::Unfinished),
-            Refusal::Limits => Some(Explanation::Limits),
-            _ => None,
+            WrittenRefusal::Form { .. } => Explanation::Unfinished,
+            WrittenRefusal::Limits => Explanation::Limits,
         }
     }
 }

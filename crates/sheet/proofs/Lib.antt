@@ -4,3 +4,4 @@ pub mod OffLayout
 pub mod Packings
 pub mod Ranges
 pub mod Supplemented
+pub mod Uncut

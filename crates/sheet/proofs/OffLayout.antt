@@ -4,7 +4,7 @@ use native.Mathlib.Decide.{dec_lt}
 use Rattle.std.proofs.lemmas.List.{get_or-drop, get_or-take, length-drop, length-take-le}
 use Rattle.grammar.specs.Grammar.{Grammar}
 use Rattle.sheet.specs.Packing.{InLayout, LayoutLaws, Lies, Off, Refused, ends, packed, stated, unpacked}
-use Rattle.grammar.specs.declared.refusal.Refusal.TheVariants.{Layout}
+use Rattle.sheet.specs.PackedRefusals.{off_told}
 use Rattle.sheet.specs.Packing.Off.{missing, lowest, behind}
 use Rattle.sheet.specs.Packing.OffTold.{tells}
 use Rattle.sheet.proofs.Packings.{lies_packed, packed_full, packed_lies, packed_listed, packed_means}
@@ -19,11 +19,11 @@ not_off G k (lowest {r} listed low before not) = not (packed_lies G r low)
 not_off G k (behind listed all more) = let there = packed_full G in omega arith
 
 -- where a list is off, it packs no grammar
-pub refused_at : (ns : List ℕ) (k : ℕ) → Off ns k → Refused ns (Layout k)
+pub refused_at : (ns : List ℕ) (k : ℕ) → Off ns k → Refused ns (off_told k)
 refused_at ns k off = (tells off, λ G e. not_off G k (subst (λ l. Off l k) e off))
 
 -- counts or contents that are not all there
-pub contents_off : {X : Type 0} (P : X → Type 0) (ns : List ℕ) (o : Option X) → MatchOption o (length ns < 3 + stated ns) P → o ≡ None → Refused ns (Layout 0)
+pub contents_off : {X : Type 0} (P : X → Type 0) (ns : List ℕ) (o : Option X) → MatchOption o (length ns < 3 + stated ns) P → o ≡ None → Refused ns (off_told 0)
 contents_off P ns (Some x) found none = absurd (search (rules, none))
 contents_off P ns None found none = refused_at ns 0 (missing found)
 
@@ -37,7 +37,7 @@ module _ (ns cs : List ℕ) (listed : 3 + stated ns ≤ length ns) (is : cs ≡ 
 
 -- a rule that is off, with those before it in their layout
 pub body_off : (ns cs : List ℕ) (r at place : ℕ) (o : Option ℕ) → 3 + stated ns ≤ length ns → cs ≡ take (stated ns) (drop 3 ns) → r < length cs → at ≡ ends ns r → ((j : ℕ) → j < r → Lies ns j) → place ≡ get_or cs r 0
-    → MatchOption o (place ≡ at → length ns < at + 2 + get_or ns (at + 1) 0) (λ end. (place ≡ at) × (end ≡ at + 2 + get_or ns (at + 1) 0) × (end ≤ length ns)) → o ≡ None → Refused ns (Layout (r + 1))
+    → MatchOption o (place ≡ at → length ns < at + 2 + get_or ns (at + 1) 0) (λ end. (place ≡ at) × (end ≡ at + 2 + get_or ns (at + 1) 0) × (end ≤ length ns)) → o ≡ None → Refused ns (off_told (r + 1))
 body_off ns cs r at place (Some end) listed is low here before placed found none = absurd (search (rules, none))
 body_off ns cs r at place None listed is low here before placed found none =
     let there = contents_at ns cs listed is r low in
@@ -45,7 +45,7 @@ body_off ns cs r at place None listed is low here before placed found none =
 
 -- with every rule in its layout, numbers follow or the list is a packing
 pub all_lie : (ns : List ℕ) (r at : ℕ) → 3 + stated ns ≤ length ns → r ≡ stated ns → at ≡ ends ns r → at ≤ length ns → ((j : ℕ) → j < r → Lies ns j)
-    → (at < length ns → Refused ns (Layout (stated ns + 1))) × (length ns ≤ at → InLayout ns)
+    → (at < length ns → Refused ns (off_told (stated ns + 1))) × (length ns ≤ at → InLayout ns)
 all_lie ns r at listed all is within before =
     let end = ap (ends ns) all in
     let every : (j : ℕ) → j < stated ns → Lies ns j = λ j h. before j (omega arith) in (

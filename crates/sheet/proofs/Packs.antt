@@ -1,10 +1,12 @@
 -- The packing of a grammar, rule by rule.
-use Rattle.std.proofs.Common.{◌≡◌, ℕ, zero, suc, ◌+◌, ◌<◌, ◌≤◌, List, [], ◌∷◌, ◌++◌, length, get_or, take, drop, sym, refl, ap, ◌∙◌, arith}
+use Rattle.std.proofs.Common.{◌≡◌, ℕ, zero, suc, ◌+◌, ◌<◌, ◌≤◌, List, [], ◌∷◌, ◌++◌, length, get_or, take, drop, Some, Option, sym, refl, ap, ◌∙◌, arith, rules}
 use Rattle.std.proofs.lemmas.List.{append_assoc, append-nil, get_or_append_left, length-append, take-append-drop, take_all, take_more}
+use Rattle.std.proofs.lemmas.Option.{slice_get-get_or}
 use Rattle.grammar.specs.Grammar.{Grammar, Rule, no_rule}
 use Rattle.sheet.specs.Packing.{bodies, body, contents, packed}
 use Rattle.sheet.proofs.Packings.{contents_length}
 use Rattle.sheet.specs.Packs.{Narrow, begins, rule_at}
+use Rattle.sheet.specs.Readings.{length_of, length_told}
 
 bodies-append : (xs ys : List Rule) → bodies (xs ++ ys) ≡ bodies xs ++ bodies ys
 bodies-append [] ys = refl
@@ -25,6 +27,12 @@ contents_at at (r ∷ rs) (suc i) h =
     contents_at (at + length (body r)) rs i (omega arith) ∙ omega arith
 
 module _ (G : Grammar) (i : ℕ) (within : i < length G.rules) where
+  pub length_read : (o : Option ℕ) (n : ℕ) → o ≡ length_told G (i + 1) → o ≡ Some n → n ≡ length (rule_at G i).right
+  length_read o n told is =
+      let one : i + 1 ≡ suc i = omega arith in
+      let both = sym is ∙ told ∙ ap (length_told G) one ∙ ap length_of (slice_get-get_or G.rules i no_rule within) in
+      search (rules, both)
+
   pub bodies_more : bodies (take (i + 1) G.rules) ≡ bodies (take i G.rules) ++ body (rule_at G i)
   bodies_more = ap bodies (take_more G.rules i no_rule within) ∙ bodies-append (take i G.rules) (rule_at G i ∷ []) ∙ ap (λ t. bodies (take i G.rules) ++ t) (append-nil (body (rule_at G i)))
 

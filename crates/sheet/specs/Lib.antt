@@ -1,3 +1,5 @@
+pub mod AddRefusals
+pub mod PackedRefusals
 pub mod Packing
 pub mod Packs
 pub mod Readings

@@ -2,8 +2,8 @@
 use Rattle.std.specs.Prelude.{◌≡◌, ℕ, zero, suc, ◌+◌, ◌<◌, ◌≤◌, List, [], ◌∷◌, ◌++◌, map, length, take, drop, Some, ◌≢◌, slice_index}
 use Rattle.std.specs.List.{range_with_len}
 use Rattle.grammar.specs.Grammar.{Rule, Grammar}
-use Rattle.grammar.specs.Refusals.{Told, number, told}
-use Rattle.grammar.specs.declared.refusal.Refusal.{Refusal}
+use Rattle.grammar.specs.Refusals.{Told}
+use Rattle.sheet.specs.PackedRefusals.{off_told}
 use Rattle.sheet.specs.Readings.{rule_told}
 
 -- A body: the left side, the length, the codes.
@@ -43,9 +43,9 @@ pub data Off (ns : List ℕ) : ℕ → Type 0 where
   lowest : {r : ℕ} → 3 + stated ns ≤ length ns → r < stated ns → ((j : ℕ) → j < r → Lies ns j) → (Lies ns r → ⊥) → Off ns (r + 1)
   behind : 3 + stated ns ≤ length ns → ((j : ℕ) → j < stated ns → Lies ns j) → ends ns (stated ns) < length ns → Off ns (stated ns + 1)
 
--- What a refusal tells of a list off its layout: number 1, and where.
+-- What a refusal tells of a list off its layout.
 pub data OffTold (ns : List ℕ) : Told → Type 0 where
-  tells : {k : ℕ} → Off ns k → OffTold ns (record { number = 1; values = number k ∷ [] })
+  tells : {k : ℕ} → Off ns k → OffTold ns (off_told k)
 
 -- The rule whose body begins at this place.
 abbrev pub rule_from : List ℕ → ℕ → Rule
@@ -55,9 +55,9 @@ rule_from ns at = record { left = slice_index ns at; right = take (slice_index n
 abbrev pub unpacked : List ℕ → Grammar
 unpacked ns = record { terminals = slice_index ns 0; nonterminals = slice_index ns 1; rules = map (λ r. rule_from ns (slice_index ns (3 + r))) (range_with_len 0 (stated ns)) }
 
--- The refusal is right, and the list packs no grammar.
-abbrev pub Refused : List ℕ → Refusal → Type 0
-Refused ns e = OffTold ns (told e) × ((G : Grammar) → ns ≢ packed G)
+-- What is told is right, and the list packs no grammar.
+abbrev pub Refused : List ℕ → Told → Type 0
+Refused ns t = OffTold ns t × ((G : Grammar) → ns ≢ packed G)
 
 -- What a list tells of a rule with this number, whose body begins at this place.
 pub record BodyAt (ns : List ℕ) (rule at : ℕ) : Type 0 where

@@ -2,7 +2,8 @@
 use Rattle.std.specs.Prelude.{◌≡◌, ℕ, ◌+◌, ◌-◌, ◌≤◌, List, [], ◌∷◌, ◌++◌, map, length, take}
 use Rattle.bounded.specs.BoundedList.{listed}
 use Rattle.grammar.specs.Grammar.{AllCodes, Grammar, IsNonterminal, Rule}
-use Rattle.grammar.specs.Refusals.{Told, number}
+use Rattle.grammar.specs.Refusals.{Told}
+use Rattle.sheet.specs.AddRefusals.{limits_told, range_told}
 use Rattle.sheet.specs.ShortRules.{rule_of}
 use Rattle.sheet.specs.declared.supplement.Supplement.{Supplement}
 
@@ -24,8 +25,10 @@ InRange G left codes = IsNonterminal G left × AllCodes G codes
 
 -- What a refusal tells: 3 past a limit, else 4 with the number that the rule would have had.
 pub data NotAdded (G : Grammar) (own left : ℕ) (codes : List ℕ) : Told → Type 0 where
-  limits : (WithinLimits G own codes → ⊥) → NotAdded G own left codes (record { number = 3; values = [] })
-  range : WithinLimits G own codes → (InRange G left codes → ⊥) → NotAdded G own left codes (record { number = 4; values = number (length G.rules + 1) ∷ [] })
+  limits : (WithinLimits G own codes → ⊥) → NotAdded G own left codes limits_told
+  range : WithinLimits G own codes
+      → (InRange G left codes → ⊥)
+      → NotAdded G own left codes (range_told (length G.rules + 1))
 
 module _ {S : Type 0} where
   -- The rules of its own.
@@ -36,9 +39,27 @@ module _ {S : Type 0} where
   abbrev pub supplemented : (S → Grammar) → Supplement S → Grammar
   supplemented below x = with_rules (below x.sheet) (own_rules x)
 
--- The rule is added behind the others.
+-- The rule is added behind the others, over the same sheet.
 pub record Added {S : Type 0} (below : S → Grammar) (before : Supplement S) (left : ℕ) (codes : List ℕ) (after : Supplement S) : Type 0 where
   pub limits : WithinLimits (supplemented below before) (length (own_rules before)) codes
   pub range : InRange (supplemented below before) left codes
+  pub sheet : after.sheet ≡ before.sheet
   pub appended : supplemented below after ≡ with_rule (supplemented below before) left codes
   pub own : own_rules after ≡ own_rules before ++ record { left = left; right = codes } ∷ []
+
+module _ {S : Type 0} (below : S → Grammar) where
+  -- The rules are those below and all of its own: none is cut off at 96.
+  abbrev pub Uncut : Supplement S → Type 0
+  Uncut x = (supplemented below x).rules ≡ (below x.sheet).rules ++ own_rules x
+
+  -- Made of a sheet alone, and then by adding rules.
+  pub data Made : Supplement S → Type 0 where
+    alone : {x : Supplement S} → own_rules x ≡ [] → Made x
+    added : {x y : Supplement S} {left : ℕ} {codes : List ℕ}
+        → Made x
+        → Added below x left codes y
+        → Made y
+
+  -- Of what was made so nothing is ever cut off.
+  abbrev pub NeverCut : Type 0
+  NeverCut = (x : Supplement S) → Made x → Uncut x

@@ -1,11 +1,11 @@
 ghost use Rattle.std.specs.Prelude.{◌≡◌, ℕ, ◌+◌, ◌^◌, ◌<◌, ◌≤◌, drop, length, take, IfSome, None, Ok, Some, MatchOption, MatchResult, slice_index};
 ghost use Rattle.grammar.specs.Grammar.{Grammar, nothing};
-ghost use Rattle.grammar.specs.Refusals.{told};
+ghost use Rattle.sheet.specs.PackedRefusals.{off_told, told};
 ghost use Rattle.sheet.specs.Packing.{BodyAt, InLayout, LayoutLaws, Lies, OffTold, Refused, ends, packed, stated, unpacked};
 ghost use Rattle.sheet.specs.Readings.{rule_told};
 
+use super::packed_refusal::PackedRefusal;
 use super::rule_sheet::RuleSheet;
-use grammar::Refusal;
 
 // The packed numbers of the empty sheet.
 static NOTHING: [u16; 3] = [0, 0, 0];
@@ -28,7 +28,7 @@ impl<'a> PackedSheet<'a> {
     }
 
     // Opens the numbers. A list off its layout is refused, and the sheet is then empty.
-    pub fn open(&mut self, numbers: &'a [u16]) -> Result<(), Refusal>
+    pub fn open(&mut self, numbers: &'a [u16]) -> Result<(), PackedRefusal>
         ensures answer { MatchResult result (λ _. numbers.now ≡ packed (unpacked self.new.numbers.now)) (λ e. OffTold numbers.now (told e) × (unpacked self.new.numbers.now ≡ nothing)) }
         ensures means { (G : Grammar) → numbers.now ≡ packed G → (result ≡ Ok tt) × (unpacked self.new.numbers.now ≡ G) }
     {
@@ -73,13 +73,13 @@ fn contents(numbers: &[u16]) -> Option<&[u16]>
 
 // Why the numbers are off their layout, if they are.
 #[tactic(auto, using(crate::proofs::OffLayout::contents_off))]
-fn check_layout(numbers: &[u16]) -> Result<(), Refusal>
-    ensures { MatchResult result (λ _. InLayout numbers.now) (λ e. Refused numbers.now e) }
+fn check_layout(numbers: &[u16]) -> Result<(), PackedRefusal>
+    ensures { MatchResult result (λ _. InLayout numbers.now) (λ e. Refused numbers.now (told e)) }
 {
-    let contents = contents(numbers).ok_or(Refusal::Layout { rule: 0 })?;
+    let contents = contents(numbers).ok_or(PackedRefusal::Layout { rule: 0 })?;
     let end = bodies_end(numbers, contents)?;
     if end < numbers.len() {
-        return Err(Refusal::Layout {
+        return Err(PackedRefusal::Layout {
             rule: contents.len() as u32 + 1,
         });
     }
@@ -88,14 +88,17 @@ fn check_layout(numbers: &[u16]) -> Result<(), Refusal>
 
 // Where the last body ends, if each lies where the contents have it, behind the one before.
 #[tactic(auto, using(crate::proofs::OffLayout::body_off))]
-fn bodies_end(numbers: &[u16], contents: &[u16]) -> Result<usize, Refusal>
+fn bodies_end(numbers: &[u16], contents: &[u16]) -> Result<usize, PackedRefusal>
     requires listed { 3 + stated numbers.now ≤ length numbers.now }
     requires contents { contents.now ≡ take (stated numbers.now) (drop 3 numbers.now) }
-    ensures { MatchResult result (λ end. (end < length numbers.now → Refused numbers.now (Refusal.Layout (stated numbers.now + 1))) × (length numbers.now ≤ end → InLayout numbers.now)) (λ e. Refused numbers.now e) }
+    ensures { MatchResult result
+        (λ end. (end < length numbers.now → Refused numbers.now (off_told (stated numbers.now + 1)))
+        × (length numbers.now ≤ end → InLayout numbers.now))
+        (λ e. Refused numbers.now (told e)) }
 {
     let mut at = 3 + contents.len();
     for (rule, place) in contents.iter().enumerate() {
-        at = body_end(numbers, usize::from(*place), at).ok_or(Refusal::Layout {
+        at = body_end(numbers, usize::from(*place), at).ok_or(PackedRefusal::Layout {
             rule: rule as u32 + 1,
         })?;
     }

@@ -5,7 +5,7 @@ ghost use Rattle.sheet.specs.Packs.{Narrow, NarrowPlaces, Packs, PacksNot, rule_
 use super::rule_sheet::RuleSheet;
 
 // Sheet and list come beside each other, since each function writes a part of the list of its own.
-// Rules and codes are asked for only where there are such, so the 0 of `unwrap_or(0)` is never told.
+// Rules and codes are asked for only where there are such, so a reading is never none here.
 // What is read by `i` is the rule after rule i: `i < rules` says that there is one, and `i < 65535` that its number has 16 bits.
 
 // Packs any sheet into the front of a lent list, and tells how many numbers that took.
@@ -31,18 +31,9 @@ fn packed_size<S: RuleSheet>(sheet: &S) -> Option<usize>
         if at > 65535 {
             return None;
         }
-        at += 2 + usize::from(size(sheet, i));
+        at += 2 + usize::from(sheet.length(i + 1)?);
     }
     Some(at)
-}
-
-// The length of the rule after rule i.
-fn size<S: RuleSheet>(sheet: &S, i: u16) -> u16
-    requires within { i < length (S.RuleSheet.meaning sheet.now).rules }
-    requires small { i < 65535 }
-    ensures { result ≡ length (rule_at (S.RuleSheet.meaning sheet.now) i).right }
-{
-    sheet.length(i + 1).unwrap_or(0)
 }
 
 // Writes the packing over a list of its length.
@@ -67,8 +58,11 @@ fn put_contents<S: RuleSheet>(sheet: &S, out: &mut [u16])
 {
     let mut at = 3 + out.len();
     for (i, place) in out.iter_mut().enumerate() {
+        let Some(length) = sheet.length(i as u16 + 1) else {
+            return;
+        };
         *place = at as u16;
-        at += 2 + usize::from(size(sheet, i as u16));
+        at += 2 + usize::from(length);
     }
 }
 
@@ -79,7 +73,10 @@ fn put_bodies<S: RuleSheet>(sheet: &S, out: &mut [u16])
 {
     let mut at = 0;
     for i in 0..sheet.rules() {
-        let end = at + 2 + usize::from(size(sheet, i));
+        let Some(length) = sheet.length(i + 1) else {
+            return;
+        };
+        let end = at + 2 + usize::from(length);
         put_body(sheet, i, &mut out[at..end]);
         at = end;
     }
@@ -92,8 +89,11 @@ fn put_body<S: RuleSheet>(sheet: &S, i: u16, out: &mut [u16])
     requires whole { length out.old ≡ length (body (rule_at (S.RuleSheet.meaning sheet.now) i)) }
     ensures { out.new ≡ body (rule_at (S.RuleSheet.meaning sheet.now) i) }
 {
+    let (Some(left), Some(length)) = (sheet.left(i + 1), sheet.length(i + 1)) else {
+        return;
+    };
     let (head, codes) = out.split_at_mut(2);
-    head.copy_from_slice(&[sheet.left(i + 1).unwrap_or(0), size(sheet, i)]);
+    head.copy_from_slice(&[left, length]);
     put_codes(sheet, i, codes);
 }
 
@@ -106,6 +106,9 @@ fn put_codes<S: RuleSheet>(sheet: &S, i: u16, out: &mut [u16])
     ensures { out.new ≡ (rule_at (S.RuleSheet.meaning sheet.now) i).right }
 {
     for (k, place) in out.iter_mut().enumerate() {
-        *place = sheet.code(i + 1, k as u16).unwrap_or(0);
+        let Some(code) = sheet.code(i + 1, k as u16) else {
+            return;
+        };
+        *place = code;
     }
 }

@@ -1,14 +1,15 @@
 ghost use Rattle.std.specs.Prelude.{◌≡◌, ◌+◌, ◌<◌, ◌≤◌, [], length, Decides, IfErr, MatchOption, None, OnErr, OnOk, Some};
 ghost use Rattle.grammar.specs.Grammar.{AllCodes};
-ghost use Rattle.grammar.specs.Refusals.{told};
+ghost use Rattle.sheet.specs.AddRefusals.{told};
 ghost use Rattle.sheet.specs.Readings.{rule_told};
 ghost use Rattle.sheet.specs.ShortRules.{rule_of};
 ghost use Rattle.sheet.specs.Supplements.{Added, InRange, NotAdded, own_rules, supplemented};
+ghost use Rattle.sheet.specs.Supplements.{NeverCut, Uncut};
 
+use super::add_refusal::AddRefusal;
 use super::rule_sheet::RuleSheet;
 use super::short_rule::ShortRule;
 use bounded::BoundedList;
-use grammar::Refusal;
 
 // A sheet made of any other, with up to 16 rules of its own behind those.
 #[derive(Drop)]
@@ -22,6 +23,7 @@ impl<S: RuleSheet> Supplement<S> {
     pub fn new(sheet: S) -> Supplement<S>
         ensures means { supplemented S.RuleSheet.meaning result ≡ S.RuleSheet.meaning sheet }
         ensures none { own_rules result ≡ [] }
+        ensures uncut { Uncut S.RuleSheet.meaning result }
     {
         Supplement {
             sheet,
@@ -37,21 +39,22 @@ impl<S: RuleSheet> Supplement<S> {
     }
 
     // Adds a rule behind the others. Limits are tried first, then the range; a refusal changes nothing.
-    pub fn add(&mut self, left: u16, codes: &[u16]) -> Result<(), Refusal>
+    pub fn add(&mut self, left: u16, codes: &[u16]) -> Result<(), AddRefusal>
         ensures added { OnOk result (Added S.RuleSheet.meaning self.old left codes.now self.new) }
         ensures refused { IfErr result (λ e. NotAdded (supplemented S.RuleSheet.meaning self.old) (length (own_rules self.old)) left codes.now (told e)) }
         ensures unchanged { OnErr result (self.new ≡ self.old) }
+        ensures uncut { Uncut S.RuleSheet.meaning self.old → Uncut S.RuleSheet.meaning self.new }
     {
         let rules = self.rules();
         if rules >= 96 || self.own.is_full() {
-            return Err(Refusal::Limits);
+            return Err(AddRefusal::Limits);
         }
-        // No `From` makes a refusal of what does not fit: `grammar` and `bounded`, where it could stand, do not know each other.
-        let rule = ShortRule::with_codes(left, codes).map_err(|_| Refusal::Limits)?;
+        let rule = ShortRule::with_codes(left, codes)?;
         if !in_range(self, left, codes) {
-            return Err(Refusal::Range { rule: rules + 1 });
+            return Err(AddRefusal::Range { rule: rules + 1 });
         }
-        self.own.push(rule).map_err(|_| Refusal::Limits)
+        self.own.push(rule)?;
+        Ok(())
     }
 
     // The rule with this number, if it is one of its own.
@@ -121,4 +124,12 @@ impl<S: RuleSheet> RuleSheet for Supplement<S> {
             None => self.sheet.code(rule, place),
         }
     }
+}
+
+// A theorem: of what `new` and then `add` made nothing is cut off.
+pub fn never_cut<S: RuleSheet>() -> u8
+    ensures law { NeverCut S.RuleSheet.meaning }
+    ensures answer { result ≡ 0 }
+{
+    0
 }

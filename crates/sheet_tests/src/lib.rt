@@ -4,6 +4,8 @@
 #[cfg(test)]
 mod packed;
 #[cfg(test)]
+mod refusals;
+#[cfg(test)]
 mod supplement;
 #[cfg(test)]
 mod written_meaning;

@@ -1,12 +1,11 @@
-use grammar::Refusal;
-use sheet::{PackedSheet, RuleSheet, Supplement, pack};
+use sheet::{PackedRefusal, PackedSheet, RuleSheet, Supplement, pack};
 
 static SAMPLE: [u16; 21] = [
     3, 3, 4, 7, 11, 15, 19, 4, 2, 5, 6, 5, 2, 1, 2, 6, 2, 3, 6, 6, 0,
 ];
 
 // One such function for each kind of sheet: they open numbers here and text there.
-fn opened(numbers: &[u16]) -> Result<(), Refusal> {
+fn opened(numbers: &[u16]) -> Result<(), PackedRefusal> {
     let mut sheet = PackedSheet::new();
     sheet.open(numbers)
 }
@@ -43,7 +42,7 @@ fn refused_opening_leaves_nothing(rt: HostRuntime) {
     assert_eq!(rt; sheet.open(&SAMPLE), Ok(()));
     assert_eq!(rt;
         sheet.open(&SAMPLE[0..20]),
-        Err(Refusal::Layout { rule: 4 })
+        Err(PackedRefusal::Layout { rule: 4 })
     );
     assert!(rt; sheet.terminals() == 0 && sheet.nonterminals() == 0 && sheet.rules() == 0);
     assert!(rt; silent(&sheet, 1));
@@ -51,50 +50,54 @@ fn refused_opening_leaves_nothing(rt: HostRuntime) {
 
 #[test]
 fn each_cause_is_told(rt: HostRuntime) {
-    assert_eq!(rt; opened(&[]), Err(Refusal::Layout { rule: 0 }), "no numbers");
+    assert_eq!(rt;
+        opened(&[]),
+        Err(PackedRefusal::Layout { rule: 0 }),
+        "no numbers"
+    );
     assert_eq!(rt;
         opened(&[3, 3]),
-        Err(Refusal::Layout { rule: 0 }),
+        Err(PackedRefusal::Layout { rule: 0 }),
         "two numbers"
     );
     assert_eq!(rt;
         opened(&[1, 1, 2, 5]),
-        Err(Refusal::Layout { rule: 0 }),
+        Err(PackedRefusal::Layout { rule: 0 }),
         "contents cut"
     );
     assert_eq!(rt;
         opened(&[1, 1, 65535, 4]),
-        Err(Refusal::Layout { rule: 0 }),
+        Err(PackedRefusal::Layout { rule: 0 }),
         "most of 65,535 places missing"
     );
     assert_eq!(rt;
         opened(&[1, 1, 1, 5, 2, 0]),
-        Err(Refusal::Layout { rule: 1 }),
+        Err(PackedRefusal::Layout { rule: 1 }),
         "first place wrong"
     );
     assert_eq!(rt;
         opened(&[1, 1, 2, 5, 6, 2, 1, 1, 2, 0]),
-        Err(Refusal::Layout { rule: 2 }),
+        Err(PackedRefusal::Layout { rule: 2 }),
         "a body inside another"
     );
     assert_eq!(rt;
         opened(&[1, 1, 1, 4, 2]),
-        Err(Refusal::Layout { rule: 1 }),
+        Err(PackedRefusal::Layout { rule: 1 }),
         "body without its length"
     );
     assert_eq!(rt;
         opened(&[1, 1, 1, 4, 2, 3, 1, 1]),
-        Err(Refusal::Layout { rule: 1 }),
+        Err(PackedRefusal::Layout { rule: 1 }),
         "body cut"
     );
     assert_eq!(rt;
         opened(&[1, 1, 1, 4, 2, 0, 9]),
-        Err(Refusal::Layout { rule: 2 }),
+        Err(PackedRefusal::Layout { rule: 2 }),
         "a number behind"
     );
     assert_eq!(rt;
         opened(&[1, 1, 0, 9]),
-        Err(Refusal::Layout { rule: 1 }),
+        Err(PackedRefusal::Layout { rule: 1 }),
         "a number behind no rule"
     );
 }

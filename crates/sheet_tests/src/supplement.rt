@@ -1,5 +1,4 @@
-use grammar::Refusal;
-use sheet::{PackedSheet, RuleSheet, Supplement, pack};
+use sheet::{AddRefusal, PackedSheet, RuleSheet, Supplement, pack};
 use std::process::Abort;
 
 // One terminal, one nonterminal and one rule.
@@ -38,14 +37,18 @@ fn limits_come_before_range(rt: HostRuntime) {
     let mut sheet = PackedSheet::new();
     assert!(rt; sheet.open(&SMALL).is_ok());
     let mut more = Supplement::new(sheet);
-    assert_eq!(rt; more.add(2, &[1; 9]), Err(Refusal::Limits), "a ninth code");
+    assert_eq!(rt;
+        more.add(2, &[1; 9]),
+        Err(AddRefusal::Limits),
+        "a ninth code"
+    );
     assert_eq!(rt; more.add(2, &[1; 8]), Ok(()), "eight codes");
     let mut full = Supplement::new(more);
     fill(&rt, &mut full);
-    assert_eq!(rt; full.add(2, &[1]), Err(Refusal::Limits), "a 17th rule");
+    assert_eq!(rt; full.add(2, &[1]), Err(AddRefusal::Limits), "a 17th rule");
     assert_eq!(rt;
         full.add(0, &[0]),
-        Err(Refusal::Limits),
+        Err(AddRefusal::Limits),
         "a 17th rule, out of range too"
     );
     assert!(rt; full.rules() == 18 && full.own_rules() == 16 && full.left(19).is_none());
@@ -56,14 +59,14 @@ fn codes_keep_to_their_range(rt: HostRuntime) {
     let mut sheet = PackedSheet::new();
     assert!(rt; sheet.open(&SMALL).is_ok());
     let mut more = Supplement::new(sheet);
-    let second = Err(Refusal::Range { rule: 2 });
+    let second = Err(AddRefusal::Range { rule: 2 });
     assert_eq!(rt; more.add(1, &[]), second, "left side below");
     assert_eq!(rt; more.add(3, &[]), second, "left side past");
     assert_eq!(rt; more.add(2, &[1, 0]), second, "code 0");
     assert_eq!(rt; more.add(2, &[3, 1]), second, "code past");
     assert!(rt; more.rules() == 1 && more.own_rules() == 0);
     assert_eq!(rt; more.add(2, &[1, 2]), Ok(()));
-    assert_eq!(rt; more.add(0, &[]), Err(Refusal::Range { rule: 3 }));
+    assert_eq!(rt; more.add(0, &[]), Err(AddRefusal::Range { rule: 3 }));
 }
 
 #[test]
@@ -71,7 +74,7 @@ fn codes_may_pass_16_bits_in_sum(rt: HostRuntime) {
     let mut wide = PackedSheet::new();
     assert!(rt; wide.open(&WIDE).is_ok());
     let mut more = Supplement::new(wide);
-    assert_eq!(rt; more.add(65534, &[]), Err(Refusal::Range { rule: 1 }));
+    assert_eq!(rt; more.add(65534, &[]), Err(AddRefusal::Range { rule: 1 }));
     assert_eq!(rt; more.add(65535, &[65535]), Ok(()));
 }
 
@@ -93,6 +96,6 @@ fn no_more_than_96_rules(rt: HostRuntime) {
     fill(&rt, &mut f);
     assert!(rt; f.rules() == 96 && f.left(97).is_none());
     let mut last = Supplement::new(f);
-    assert_eq!(rt; last.add(2, &[1]), Err(Refusal::Limits));
+    assert_eq!(rt; last.add(2, &[1]), Err(AddRefusal::Limits));
     assert!(rt; last.rules() == 96 && last.own_rules() == 0 && last.code(96, 0).is_some());
 }

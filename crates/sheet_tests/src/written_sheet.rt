@@ -1,18 +1,17 @@
 // What opening a written sheet tells.
-use grammar::Refusal;
-use grammar::Refusal::{Form, Limits};
 use std::alloc::{AllocError, Global};
 use std::process::Abort;
 use std::test::Fail;
-use written::WrittenSheet;
+use written::WrittenRefusal::{Form, Limits};
+use written::{WrittenRefusal, WrittenSheet};
 
-fn opened(text: &[u8]) -> Result<(), Refusal> {
+fn opened(text: &[u8]) -> Result<(), WrittenRefusal> {
     let mut sheet = WrittenSheet::new();
     sheet.open(text)
 }
 
 // Each text, with what its opening tells.
-fn all_told(rt: &impl Abort, cases: &[(&str, Result<(), Refusal>)]) {
+fn all_told(rt: &impl Abort, cases: &[(&str, Result<(), WrittenRefusal>)]) {
     for (text, answer) in cases {
         assert_eq!(rt; opened(text.as_bytes()), *answer, "{}", *text);
     }
@@ -128,7 +127,7 @@ fn told_with(
     heap: Global,
     pattern: Pattern<'_>,
     parts: u8,
-) -> Result<Result<(), Refusal>, AllocError> {
+) -> Result<Result<(), WrittenRefusal>, AllocError> {
     let mut text = Vec::new(heap);
     put_part(&mut text, pattern.front.as_bytes(), 0)?;
     // The number of a part is written into it.
@@ -145,7 +144,7 @@ fn most(
     heap: Global,
     pattern: Pattern<'_>,
     parts: u8,
-    past: Refusal,
+    past: WrittenRefusal,
 ) -> Result<(), Fail> {
     assert_eq!(rt;
         told_with(heap, pattern, parts)?,

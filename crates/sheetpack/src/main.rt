@@ -3,7 +3,6 @@
 #![tactic(auto)]
 
 use console::read_text;
-use grammar::Refusal;
 use sheet::{PackedSheet, RuleSheet, pack};
 use std::io::Write;
 use std::{env, io};

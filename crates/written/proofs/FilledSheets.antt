@@ -9,8 +9,8 @@ use Rattle.bounded.specs.declared.full.Full.{Full}
 use Rattle.bounded.proofs.Listed.{listed_fits}
 use Rattle.grammar.specs.Grammar.{Grammar, IsRule, right_side, no_rule}
 use Rattle.grammar.specs.Outcome.{Within}
-use Rattle.grammar.specs.declared.refusal.Refusal.{Refusal}
-use Rattle.grammar.specs.declared.refusal.Refusal.TheVariants.{Limits}
+use Rattle.written.specs.WrittenRefusals.{limits_told, told}
+use Rattle.written.specs.declared.written_refusal.WrittenRefusal.{WrittenRefusal}
 use Rattle.sheet.specs.ShortRules.{rule_of}
 use Rattle.sheet.specs.declared.short_rule.ShortRule.{ShortRule}
 use Rattle.written.specs.Tokens.{Placed, tokens}
@@ -84,7 +84,7 @@ module _ (ts : List Placed) (ss : List Statement) {text : List ℕ} (w : Written
     drafted_all = ap (λ l. draft_after l heads blank_draft (tokens ts)) words_found ∙ ap (λ l. draft_after (terminals_of ss) l blank_draft (tokens ts)) heads_found ∙ done
 
     -- A rule too many, or one that is too long; and nothing else.
-    pub rules_off : (e : Refusal) → headless_place ts ss ≡ None → Read (Err e) words heads (tokens ts) → (e ≡ Limits) × (Within (grammar_of ss) → ⊥)
+    pub rules_off : (e : WrittenRefusal) → headless_place ts ss ≡ None → Read (Err e) words heads (tokens ts) → (told e ≡ limits_told) × (Within (grammar_of ss) → ⊥)
     rules_off e none bad =
         let known = all_known (heads_in (tokens ts)) ts (headless_found ∙ none) in
         let found = bad (subst (λ l. AllKnown l heads (tokens ts)) (sym in_text.0) (subst (λ l. AllKnown (distinct (words_in (tokens ts))) l (tokens ts)) (sym in_text.1) known)) in

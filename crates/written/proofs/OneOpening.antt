@@ -1,18 +1,14 @@
 -- What an opening promises leaves one answer: a text is written in one way, and has one place where it cannot go on.
-use Rattle.std.proofs.Common.{◌≡◌, ℕ, List, [], ◌∷◌, Some, None, Ok, Err, Option, sym, ap, ◌∙◌, subst, arith}
+use Rattle.std.proofs.Common.{◌≡◌, ℕ, List, Some, None, Ok, Err, Option, refl, sym, ap, ◌∙◌, subst, arith}
 use Rattle.grammar.specs.Outcome.{Within}
-use Rattle.grammar.specs.Refusals.{Told, told, number}
-use Rattle.grammar.specs.declared.refusal.Refusal.{Refusal}
+use Rattle.grammar.specs.Refusals.{Told}
 use Rattle.written.specs.Tokens.{Placed}
 use Rattle.written.specs.Statements.{Statement, Written, grammar_of}
 use Rattle.written.specs.Form.{WellFormed}
+use Rattle.written.specs.WrittenRefusals.{form_told}
 use Rattle.written.specs.WrittenSheets.{Refused, misplaced, headless, off_limits, Says, headless_place, OneOpening, meant}
 use Rattle.written.proofs.UniqueFault.{misplaced_unique}
 use Rattle.written.proofs.UniqueStatements.{written_unique}
-
--- A fault at a place, as it is told.
-abbrev fault_at : ℕ → Told
-fault_at p = record { number = 2; values = number p ∷ [] }
 
 some_none : (o : Option ℕ) (p : ℕ) → o ≡ Some p → o ≡ None → ⊥
 some_none o p e f = let z : ◌≡◌ {A = ℕ} 0 1 = cc in omega arith
@@ -32,23 +28,23 @@ module _ (text : List ℕ) where
   same_statements {ts} {us} {ss} {rs} v w = (written_unique text ts us ss rs v w).1
 
   -- A text that says its statements is not refused.
-  not_refused : {ss : List Statement} {e : Refusal} → Says text ss → Refused text e → ⊥
-  not_refused s (misplaced m t) = m.ill_formed (well_formed s.written)
-  not_refused s (headless {p = p} {ts = ts} {ss = rs} w h t) = some_none (headless_place ts rs) p h (same_headless w s.written ∙ s.headed)
-  not_refused s (off_limits w h out t) = out (subst (λ rs. Within (grammar_of rs)) (same_statements s.written w) s.within)
+  not_refused : {ss : List Statement} {t : Told} → Says text ss → Refused text t → ⊥
+  not_refused s (misplaced m) = m.ill_formed (well_formed s.written)
+  not_refused s (headless {p = p} {ts = ts} {ss = rs} w h) = some_none (headless_place ts rs) p h (same_headless w s.written ∙ s.headed)
+  not_refused s (off_limits w h out) = out (subst (λ rs. Within (grammar_of rs)) (same_statements s.written w) s.within)
 
   -- Two refusals tell the same.
-  refused_alike : {e f : Refusal} → Refused text e → Refused text f → told e ≡ told f
-  refused_alike (misplaced {p = p} m t) (misplaced {p = q} k u) = t ∙ ap fault_at (misplaced_unique text p q m k) ∙ sym u
-  refused_alike (misplaced m t) (headless w h u) = absurd (m.ill_formed (well_formed w))
-  refused_alike (misplaced m t) (off_limits w h out u) = absurd (m.ill_formed (well_formed w))
-  refused_alike (headless v g t) (misplaced k u) = absurd (k.ill_formed (well_formed v))
-  refused_alike (headless {p = p} {ts = ts} {ss = ss} v g t) (headless {p = q} w h u) =
-      t ∙ ap fault_at (some_some (headless_place ts ss) p q g (same_headless v w ∙ h)) ∙ sym u
-  refused_alike (headless {p = p} {ts = ts} {ss = ss} v g t) (off_limits w h out u) = absurd (some_none (headless_place ts ss) p g (same_headless v w ∙ h))
-  refused_alike (off_limits v g out t) (misplaced k u) = absurd (k.ill_formed (well_formed v))
-  refused_alike (off_limits {ts = ts} {ss = ss} v g out t) (headless {p = q} w h u) = absurd (some_none (headless_place ts ss) q (same_headless v w ∙ h) g)
-  refused_alike (off_limits v g out t) (off_limits w h more u) = t ∙ sym u
+  refused_alike : {t u : Told} → Refused text t → Refused text u → t ≡ u
+  refused_alike (misplaced {p = p} m) (misplaced {p = q} k) = ap form_told (misplaced_unique text p q m k)
+  refused_alike (misplaced m) (headless w h) = absurd (m.ill_formed (well_formed w))
+  refused_alike (misplaced m) (off_limits w h out) = absurd (m.ill_formed (well_formed w))
+  refused_alike (headless v g) (misplaced k) = absurd (k.ill_formed (well_formed v))
+  refused_alike (headless {p = p} {ts = ts} {ss = ss} v g) (headless {p = q} w h) =
+      ap form_told (some_some (headless_place ts ss) p q g (same_headless v w ∙ h))
+  refused_alike (headless {p = p} {ts = ts} {ss = ss} v g) (off_limits w h out) = absurd (some_none (headless_place ts ss) p g (same_headless v w ∙ h))
+  refused_alike (off_limits v g out) (misplaced k) = absurd (k.ill_formed (well_formed v))
+  refused_alike (off_limits {ts = ts} {ss = ss} v g out) (headless {p = q} w h) = absurd (some_none (headless_place ts ss) q (same_headless v w ∙ h) g)
+  refused_alike (off_limits v g out) (off_limits w h more) = refl
 
 pub one_opening : OneOpening
 one_opening text (Ok x) (Ok y) c d (ss, s, e) (rs, r, f) = (tt, e ∙ ap meant (same_statements text s.written r.written) ∙ sym f)

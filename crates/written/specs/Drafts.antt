@@ -6,13 +6,13 @@ use Rattle.bounded.specs.BoundedList.{listed}
 use Rattle.bounded.specs.declared.bounded_list.BoundedList.{BoundedList}
 use Rattle.bounded.specs.declared.full.Full.{Full}
 use Rattle.grammar.specs.Grammar.{Rule}
-use Rattle.grammar.specs.declared.refusal.Refusal.{Refusal}
-use Rattle.grammar.specs.declared.refusal.Refusal.TheVariants.{Limits}
 use Rattle.sheet.specs.ShortRules.{rule_of, with_code}
 use Rattle.sheet.specs.declared.short_rule.ShortRule.{ShortRule}
 use Rattle.written.specs.Tokens.{Token, name, word, colon, bar, semicolon}
 use Rattle.written.specs.Statements.{member, name_code, word_code}
+use Rattle.written.specs.WrittenRefusals.{limits_told, told}
 use Rattle.written.specs.declared.draft.Draft.{Draft}
+use Rattle.written.specs.declared.written_refusal.WrittenRefusal.{WrittenRefusal}
 
 -- The rule that is being read, none between statements, and the rules before it.
 pub record Drafted : Type 0 where
@@ -94,15 +94,31 @@ module _ (terminals nonterminals : List (List ℕ)) where
   draft_after d (t ∷ ts) = draft_after (draft_step d t) ts
 
 -- The token was taken in, or it has a code and would have been too much.
-abbrev pub Steps : Result (Unit {0}) Refusal → List (List ℕ) → List (List ℕ) → Drafted → Token → Drafted → Type 0
+abbrev pub Steps : Result (Unit {0}) WrittenRefusal
+    → List (List ℕ)
+    → List (List ℕ)
+    → Drafted
+    → Token
+    → Drafted
+    → Type 0
 Steps (Ok x) terminals nonterminals d t after = after ≡ draft_step terminals nonterminals d t
-Steps (Err e) terminals nonterminals d t after = Known terminals nonterminals t → (e ≡ Limits) × Overfull (draft_step terminals nonterminals d t)
+Steps (Err e) terminals nonterminals d t after = Known terminals nonterminals t
+    → (told e ≡ limits_told) × Overfull (draft_step terminals nonterminals d t)
 
 -- All tokens were taken in, or they all have codes and lead through a draft that is too much.
-abbrev pub Read : Result (BoundedList ShortRule 96) Refusal → List (List ℕ) → List (List ℕ) → List Token → Type 0
+abbrev pub Read : Result (BoundedList ShortRule 96) WrittenRefusal
+    → List (List ℕ)
+    → List (List ℕ)
+    → List Token
+    → Type 0
 Read (Ok rs) terminals nonterminals ts = rule_list rs ≡ (draft_after terminals nonterminals blank_draft ts).rules
 Read (Err e) terminals nonterminals ts = AllKnown terminals nonterminals ts
-    → (e ≡ Limits) × (d : Drafted) × Overfull d × (rest : List Token) × (draft_after terminals nonterminals blank_draft ts ≡ draft_after terminals nonterminals d rest)
+    → (told e ≡ limits_told)
+    × (d : Drafted)
+    × Overfull d
+    × (rest : List Token)
+    × (draft_after terminals nonterminals blank_draft ts
+    ≡ draft_after terminals nonterminals d rest)
 
 -- At most 96 rules of at most eight codes.
 pub record Fitting (rules : List Rule) : Type 0 where

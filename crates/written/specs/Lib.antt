@@ -8,4 +8,5 @@ pub mod Spelled
 pub mod NamesOf
 pub mod Walks
 pub mod Drafts
+pub mod WrittenRefusals
 pub mod WrittenSheets

@@ -8,8 +8,8 @@ ghost use Rattle.written.specs.Tokens.{Laid, Placed, tokens};
 use super::lexer::{Mark, Token};
 use super::names::Names;
 use super::tokens::Tokens;
+use super::written_refusal::WrittenRefusal;
 use bounded::{BoundedList, Full};
-use grammar::Refusal;
 use sheet::ShortRule;
 
 // Up to 96 rules.
@@ -77,29 +77,33 @@ impl Draft {
     }
 
     // Takes a token in. Refused where it is a ninth code, ends a 97th rule or has no code.
-    fn take(&mut self, names: &Names<'_>, token: Token<'_>) -> Result<(), Refusal>
+    fn take(&mut self, names: &Names<'_>, token: Token<'_>) -> Result<(), WrittenRefusal>
         ensures { Steps result (spelled names.now.words) (spelled names.now.heads) (drafted self.old) (placed_of token.entry).token (drafted self.new) }
     {
         let taken = match token {
-            Token::Name(place, name) => {
-                let code = names.name_code(name).ok_or(Refusal::Form { place })?;
+            Token::Name(name) => {
+                let code = names
+                    .name_code(name.bytes)
+                    .ok_or(WrittenRefusal::Form { place: name.at })?;
                 self.name(code)
             }
-            Token::Word(place, word) => {
-                let code = names.word_code(word).ok_or(Refusal::Form { place })?;
+            Token::Word(word) => {
+                let code = names
+                    .word_code(word.bytes)
+                    .ok_or(WrittenRefusal::Form { place: word.at })?;
                 self.extend(code)
             }
             Token::Mark(_, Mark::Colon) => Ok(()),
             Token::Mark(_, Mark::Bar) => self.divide(),
             Token::Mark(_, Mark::Semicolon) => self.close(),
         };
-        // No `From` makes a refusal of what does not fit: `grammar` and `bounded`, where it could stand, do not know each other.
-        taken.map_err(|_| Refusal::Limits)
+        taken?;
+        Ok(())
     }
 }
 
 // The rules of a text, whose names and words have these codes.
-pub(crate) fn read_rules(text: &[u8], names: &Names<'_>) -> Result<Rules, Refusal>
+pub(crate) fn read_rules(text: &[u8], names: &Names<'_>) -> Result<Rules, WrittenRefusal>
     ensures { (ts : List Placed) → Laid 0 ts text.now → Read result (spelled names.now.words) (spelled names.now.heads) (tokens ts) }
 {
     let mut draft = Draft::new();

@@ -20,7 +20,7 @@ pub(crate) fn first_headless(text: &[u8]) -> Option<usize>
     ensures { (ts : List Placed) → Laid 0 ts text.now → result ≡ first_headless (heads_in (tokens ts)) ts }
 {
     Tokens::new(text).find_map(|token| match token {
-        Token::Name(place, name) if !is_head(text, name) => Some(place),
+        Token::Name(name) if !is_head(text, name.bytes) => Some(name.at),
         _ => None,
     })
 }

@@ -41,9 +41,9 @@ impl<'a> Iterator for Heads<'a> {
         // By a loop: of what the closure of a `find_map` changes, as here `between`, a proof knows nothing afterwards.
         while let Some(token) = self.tokens.next() {
             match token {
-                Token::Name(_, head) if self.between => {
+                Token::Name(head) if self.between => {
                     self.between = false;
-                    return Some(head);
+                    return Some(head.bytes);
                 }
                 Token::Mark(_, Mark::Semicolon) => self.between = true,
                 _ => {}

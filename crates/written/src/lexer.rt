@@ -1,6 +1,6 @@
 // The tokens of a written sheet, as parts of its text.
 ghost use Rattle.std.specs.Prelude.{◌≡◌, ℕ, Bool, ◌+◌, ◌<◌, ◌≤◌, List, length, drop, IfSome};
-ghost use Rattle.written.specs.Lexing.{Starts};
+ghost use Rattle.written.specs.Lexing.{Borrows, Starts};
 ghost use Rattle.written.specs.Tokens.{Laid, Placed, blank, letter};
 ghost use Rattle.std.specs.List.{prefix_len};
 
@@ -11,12 +11,20 @@ pub enum Mark {
     Semicolon,
 }
 
-// A token, each with the place of its first byte; names and words borrow the text.
+// A part of a text: its bytes, and the place of the first, from 0.
+#[derive(Clone, Copy)]
+pub struct Part<'a> {
+    pub at: usize,
+    pub bytes: &'a [u8],
+}
+
+// A token with its part of the text: all of a name, what stands between a word's quotes, or the
+// byte of a mark.
 #[derive(Clone, Copy)]
 pub enum Token<'a> {
-    Name(usize, &'a [u8]),
-    Word(usize, &'a [u8]),
-    Mark(usize, Mark),
+    Name(Part<'a>),
+    Word(Part<'a>),
+    Mark(Part<'a>, Mark),
 }
 
 // A token, and the place behind it.
@@ -52,23 +60,28 @@ fn past<F: Fn(u8) -> bool>(text: &[u8], from: usize, passes: F) -> usize
 pub(crate) fn next_token<'a>(text: &'a [u8], from: usize) -> Option<Found<'a>>
     requires { from ≤ length text.now }
     ensures starts { (ts : List Placed) → Laid from ts (drop from text.now) → Starts text.now result ts }
+    ensures borrows { IfSome result (λ f. Borrows text.now f.token) }
     ensures onward { IfSome result (λ f. (from < f.after) × (f.after ≤ length text.now)) }
 {
     let at = past(text, from, is_blank);
     if at >= text.len() {
         return None;
     }
+    let byte = Part {
+        at,
+        bytes: &text[at..at + 1],
+    };
     match char::from(text[at]) {
         ':' => Some(Found {
-            token: Token::Mark(at, Mark::Colon),
+            token: Token::Mark(byte, Mark::Colon),
             after: at + 1,
         }),
         '|' => Some(Found {
-            token: Token::Mark(at, Mark::Bar),
+            token: Token::Mark(byte, Mark::Bar),
             after: at + 1,
         }),
         ';' => Some(Found {
-            token: Token::Mark(at, Mark::Semicolon),
+            token: Token::Mark(byte, Mark::Semicolon),
             after: at + 1,
         }),
         '"' => {
@@ -77,14 +90,20 @@ pub(crate) fn next_token<'a>(text: &'a [u8], from: usize) -> Option<Found<'a>>
                 return None;
             }
             Some(Found {
-                token: Token::Word(at, &text[at + 1..end]),
+                token: Token::Word(Part {
+                    at: at + 1,
+                    bytes: &text[at + 1..end],
+                }),
                 after: end + 1,
             })
         }
         'a'..='z' | 'A'..='Z' => {
             let end = past(text, at + 1, is_letter);
             Some(Found {
-                token: Token::Name(at, &text[at..end]),
+                token: Token::Name(Part {
+                    at,
+                    bytes: &text[at..end],
+                }),
                 after: end,
             })
         }

@@ -11,5 +11,7 @@ mod spellings;
 mod tokens;
 mod words;
 mod written;
+mod written_refusal;
 
 pub use written::{WrittenSheet, one_opening};
+pub use written_refusal::WrittenRefusal;

@@ -35,7 +35,7 @@ impl<'a> Iterator for Words<'a> {
 
     fn next(&mut self) -> Option<&'a [u8]> {
         self.tokens.find_map(|token| match token {
-            Token::Word(_, word) => Some(word),
+            Token::Word(word) => Some(word.bytes),
             _ => None,
         })
     }

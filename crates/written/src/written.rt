@@ -1,6 +1,6 @@
 // A sheet that is written as text.
 ghost use Rattle.sheet.specs.Readings.{rule_told};
-ghost use Rattle.grammar.specs.declared.refusal.Refusal.TheVariants.{Form};
+ghost use Rattle.written.specs.WrittenRefusals.{form_told};
 ghost use Rattle.std.specs.Prelude.{◌≡◌, MatchOption};
 ghost use Rattle.written.specs.NamesOf.{spelling_told, word_code_told};
 ghost use Rattle.std.specs.Option.{option_map};
@@ -12,8 +12,8 @@ use super::draft::{Rules, read_rules};
 use super::form::misplaced;
 use super::headless::first_headless;
 use super::names::Names;
+use super::written_refusal::WrittenRefusal;
 use bounded::BoundedList;
-use grammar::Refusal;
 use sheet::{RuleSheet, ShortRule};
 
 // What a text says: the spellings of its words and heads, as parts of the text, and its rules.
@@ -25,7 +25,7 @@ pub struct WrittenSheet<'a> {
 
 // The first byte that cannot stand where it does, or else the place of the first name that heads nothing.
 fn form_fault(text: &[u8]) -> Option<usize>
-    ensures { MatchOption result (Headed text.now) (λ place. Refused text.now (Form place)) }
+    ensures { MatchOption result (Headed text.now) (λ place. Refused text.now (form_told place)) }
 {
     misplaced(text).or_else(|| first_headless(text))
 }
@@ -42,26 +42,25 @@ impl<'a> WrittenSheet<'a> {
     }
 
     // The sheet that a text says. Its form is looked at first, then its names, then the limits.
-    fn read(text: &'a [u8]) -> Result<WrittenSheet<'a>, Refusal>
+    fn read(text: &'a [u8]) -> Result<WrittenSheet<'a>, WrittenRefusal>
         ensures { Reads text.now result }
     {
         if let Some(place) = form_fault(text) {
-            return Err(Refusal::Form { place });
+            return Err(WrittenRefusal::Form { place });
         }
-        // Without `From`, as in `draft`.
-        let names = Names::of(text).map_err(|_| Refusal::Limits)?;
+        let names = Names::of(text)?;
         if !names.counts_within() {
-            return Err(Refusal::Limits);
+            return Err(WrittenRefusal::Limits);
         }
         let rules = read_rules(text, &names)?;
         if rules.is_empty() {
-            return Err(Refusal::Limits);
+            return Err(WrittenRefusal::Limits);
         }
         Ok(WrittenSheet { names, rules })
     }
 
     // Opens a text; refused, the sheet has counts 0 and no rule.
-    pub fn open(&mut self, text: &'a [u8]) -> Result<(), Refusal>
+    pub fn open(&mut self, text: &'a [u8]) -> Result<(), WrittenRefusal>
         ensures { Opened text.entry.now result (contents self.new) }
     {
         *self = WrittenSheet::new();

@@ -1,12 +1,11 @@
-use Rattle.std.proofs.Common.{◌≡◌, ◌+◌, ◌≤◌, ◌≢◌, ◌∷◌, [], length, is_ok, refl, sym, subst, ap, ◌∙◌, arith, rules}
+use Rattle.std.proofs.Common.{◌+◌, ◌≤◌, ◌≢◌, length, is_ok, refl, sym, subst, ap, ◌∙◌, arith}
 use Rattle.std.proofs.lemmas.Bool.{true≢false}
 use Rattle.std.proofs.lemmas.Result.{err_from_is_err_and}
-use Rattle.grammar.specs.declared.refusal.Refusal.TheVariants.{Limits}
 use Rattle.std.proofs.lemmas.Bool.Decides.{not_from_Decides}
 use Rattle.std.proofs.lemmas.List.{length-map}
 use Rattle.bounded.specs.BoundedList.{listed}
 use Rattle.bounded.proofs.Listed.{listed_fits}
-use Rattle.grammar.specs.Refusals.{number}
+use Rattle.sheet.specs.AddRefusals.{range_told}
 use Rattle.sheet.specs.ShortRules.{rule_of}
 use Rattle.sheet.specs.Supplements.{NotAdded, own_rules, supplemented}
 use Rattle.sheet.specs.Supplements.NotAdded.{limits, range}
@@ -22,10 +21,9 @@ returns-then-rules-ge96-clause-refused g c =
 
 pub returns-in_err-rule-clause-refused : goal.returns-in_err-rule-clause-refused
 returns-in_err-rule-clause-refused g c =
-    let too_long : length c.args.codes.now ≤ 8 → ⊥ = λ few. true≢false (sym (c.with_codes.ensures.short.1 few) ∙ sym c.map_err.ensures.variant ∙ ap is_ok c.in_err-rule.was) in
+    let too_long : length c.args.codes.now ≤ 8 → ⊥ = λ few. true≢false (sym (c.with_codes.ensures.short.1 few) ∙ ap is_ok c.in_err-rule.was) in
     let p = err_from_is_err_and c.from_residual.result c.from_residual.ensures.1 in
-    let is : c.in_err-rule.field-0.0 ≡ Limits = search (rules, c.map_err.ensures.cases, c.in_err-rule.was) in
-    rw (p.1, p.2, is) (limits (λ within. too_long within.2))
+    rw (p.1, p.2) (limits (λ within. too_long within.2))
 
 pub returns-then-not-in_range-clause-refused : goal.returns-then-not-in_range-clause-refused
 returns-then-not-in_range-clause-refused g c =
@@ -33,5 +31,5 @@ returns-then-not-in_range-clause-refused g c =
     let own = listed c.args.self.now.own in
     let not_full : length own ≢ 16 = λ e. cc (c.if-is_full.ensures.1 e) in
     let room : length (own_rules c.args.self.now) + 1 ≤ 16 = omega (arith, not_full, listed_fits c.args.self.now.own, length-map own rule_of) in
-    subst (λ n. NotAdded G (length (own_rules c.args.self.now)) c.args.left c.args.codes.now (record { number = 4; values = number (n + 1) ∷ [] })) (sym c.rules-rules.ensures)
-    (range (omega arith, room, c.with_codes.ensures.short.0 (sym c.map_err.ensures.variant ∙ ap is_ok c.in_ok-rule.was)) (not_from_Decides c.in_range.result c.in_range.ensures c.if-not-in_range.true))
+    subst (λ n. NotAdded G (length (own_rules c.args.self.now)) c.args.left c.args.codes.now (range_told (n + 1))) (sym c.rules-rules.ensures)
+    (range (omega arith, room, c.with_codes.ensures.short.0 (ap is_ok c.in_ok-rule.was)) (not_from_Decides c.in_range.result c.in_range.ensures c.if-not-in_range.true))
