@@ -5,9 +5,9 @@ use Rattle.grammar.specs.Grammar.{left_side, right_side}
 use Rattle.grammar.specs.Lookahead.{Lookahead}
 use Rattle.grammar.specs.Line.{runs}
 use Rattle.grammar.specs.Outcome.{Outcome, Built, built}
-use Rattle.grammar.specs.Refusals.{told, conflict}
+use Rattle.grammar.specs.Refusals.{conflict}
 use Rattle.grammar.specs.declared.action.Action.TheVariants.{Reduce}
-use Rattle.grammar.specs.declared.refusal.Refusal.TheVariants.{Layout}
+use Rattle.sheet.specs.PackedRefusals.{off_told}
 use Rattle.sheet.specs.Packing.{Lies, lowest, OffTold, tells}
 use Rattle.examples.specs.Tables.{automaton, cells}
 use Rattle.examples.specs.Sheets.{sheet_a, sheet_b, sheet_c, packed_a, tables_a, tables_b}
@@ -22,7 +22,7 @@ first_lie (suc zero) h = (refl, omega arith)
 first_lie (suc (suc zero)) h = (refl, omega arith)
 first_lie (suc (suc (suc j))) h = absurd (omega arith)
 
-a_cut : OffTold (take 20 packed_a) (told (Layout 4))
+a_cut : OffTold (take 20 packed_a) (off_told 4)
 a_cut = tells (lowest {r = 3} (omega arith) (omega arith) first_lie (λ l. absurd (omega (arith, l.1))))
 
 a_builds : Outcome sheet_a (built 8 (automaton tables_a) (cells tables_a))

@@ -3,9 +3,9 @@ use Rattle.std.specs.Prelude.{◌≡◌, ℕ, ◌⊎◌, ◌↔◌, [], ◌∷�
 use Rattle.grammar.specs.Lookahead.{Lookahead}
 use Rattle.grammar.specs.Line.{Turned, after}
 use Rattle.grammar.specs.Outcome.{Built, built, Outcome}
-use Rattle.grammar.specs.Refusals.{told, conflict}
+use Rattle.grammar.specs.Refusals.{conflict}
 use Rattle.grammar.specs.declared.action.Action.TheVariants.{Shift, Reduce}
-use Rattle.grammar.specs.declared.refusal.Refusal.TheVariants.{Layout}
+use Rattle.sheet.specs.PackedRefusals.{off_told}
 use Rattle.sheet.specs.Packing.{packed, OffTold}
 use Rattle.examples.specs.Tables.{automaton, cells}
 use Rattle.examples.specs.Sheets.{sheet_a, sheet_b, sheet_c, packed_a, tables_a, tables_b}
@@ -15,7 +15,7 @@ pub record Worked : Type 0 where
   -- Sheet A packs to 21 numbers.
   pub a_packed : packed sheet_a ≡ packed_a
   -- Without the last of them the numbers are refused, number 1, at rule 4, whose body is not all there.
-  pub a_cut : OffTold (take 20 packed_a) (told (Layout 4))
+  pub a_cut : OffTold (take 20 packed_a) (off_told 4)
   -- Sheet A builds and has 8 states; its tables are those written out.
   pub a_builds : Outcome sheet_a (built 8 (automaton tables_a) (cells tables_a))
   -- In its state 4, rule 2 has the lookahead {0, 3}.

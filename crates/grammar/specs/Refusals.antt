@@ -1,8 +1,6 @@
--- The number of each refusal, and what it tells.
+-- What refusals tell: a number, and values. Each kind of call has an enum of its own, and says what its cases tell.
 use Rattle.std.specs.Prelude.{ℕ, List, [], ◌∷◌}
 use Rattle.grammar.specs.declared.action.Action.{Action}
-use Rattle.grammar.specs.declared.refusal.Refusal.{Refusal}
-use Rattle.grammar.specs.declared.refusal.Refusal.TheVariants.{Layout, Form, Limits, Range, Useless, States, Conflict, Blank, NoDesigner, Status, FullLine, NoWord, Reductions, NoAction, FullBook}
 
 pub data Value : Type 0 where
   number : ℕ → Value
@@ -32,20 +30,3 @@ conflict state word first second =
       number = 7;
       values = number state ∷ number word ∷ action first ∷ action second ∷ [];
     }
-
-abbrev pub told : Refusal → Told
-told (Layout rule) = record { number = 1; values = number rule ∷ [] }
-told (Form place) = record { number = 2; values = number place ∷ [] }
-told Limits = limits
-told (Range rule) = range rule
-told (Useless nonterminal) = useless nonterminal
-told States = states
-told (Conflict state word first second) = conflict state word first second
-told Blank = record { number = 8; values = [] }
-told NoDesigner = record { number = 9; values = [] }
-told Status = record { number = 10; values = [] }
-told FullLine = record { number = 11; values = [] }
-told NoWord = record { number = 12; values = [] }
-told Reductions = record { number = 13; values = [] }
-told NoAction = record { number = 14; values = [] }
-told FullBook = record { number = 15; values = [] }

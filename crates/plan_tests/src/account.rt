@@ -1,7 +1,7 @@
 // What a plan over one of three sheets should answer, kept without tables.
 use super::language::{Language, Noted};
 use bounded::BoundedList;
-use grammar::Refusal;
+use line::TurnRefusal;
 
 // The most numbers that the page of a plan takes here.
 pub(crate) const ROOM: usize = 1200;
@@ -23,25 +23,29 @@ impl AccountLine {
     }
 
     // The rules noted with these behind them.
-    fn noting(&self, noted: Noted) -> Result<BoundedList<u16, 768>, Refusal> {
+    fn noting(&self, noted: Noted) -> Result<BoundedList<u16, 768>, TurnRefusal> {
         let mut rules = self.rules;
         rules
             .extend_from_slice(noted.first)
-            .map_err(|_| Refusal::Reductions)?;
+            .map_err(|_| TurnRefusal::Reductions)?;
         for _ in 0..noted.times {
-            rules.push(noted.rule).map_err(|_| Refusal::Reductions)?;
+            rules.push(noted.rule).map_err(|_| TurnRefusal::Reductions)?;
         }
         rules
             .extend_from_slice(noted.last)
-            .map_err(|_| Refusal::Reductions)?;
+            .map_err(|_| TurnRefusal::Reductions)?;
         Ok(rules)
     }
 
     // The rules noted once the line goes on with a word, or ends.
-    fn rules_at(&self, language: Language, ahead: u16) -> Result<BoundedList<u16, 768>, Refusal> {
+    fn rules_at(
+        &self,
+        language: Language,
+        ahead: u16,
+    ) -> Result<BoundedList<u16, 768>, TurnRefusal> {
         let noted = language
             .noted(self.words.as_slice(), ahead)
-            .ok_or(Refusal::NoAction)?;
+            .ok_or(TurnRefusal::NoAction)?;
         self.noting(noted)
     }
 }
@@ -75,35 +79,35 @@ impl Account {
     }
 
     // A designer's line, if it is judged or open as wanted.
-    fn line(&mut self, designer: u8, judged: bool) -> Result<&mut AccountLine, Refusal> {
+    fn line(&mut self, designer: u8, judged: bool) -> Result<&mut AccountLine, TurnRefusal> {
         let line = self
             .lines
             .get_mut(usize::from(designer))
-            .ok_or(Refusal::NoDesigner)?;
+            .ok_or(TurnRefusal::NoDesigner)?;
         if line.judged != judged {
-            return Err(Refusal::Status);
+            return Err(TurnRefusal::Status);
         }
         Ok(line)
     }
 
-    pub(crate) fn word(&mut self, designer: u8, word: u16) -> Result<u16, Refusal> {
+    pub(crate) fn word(&mut self, designer: u8, word: u16) -> Result<u16, TurnRefusal> {
         let language = self.language;
         let line = self.line(designer, false)?;
         if line.words.is_full() {
-            return Err(Refusal::FullLine);
+            return Err(TurnRefusal::FullLine);
         }
         if word == 0 || word > language.terminals() {
-            return Err(Refusal::NoWord);
+            return Err(TurnRefusal::NoWord);
         }
         let rules = line.rules_at(language, word)?;
-        line.words.push(word).map_err(|_| Refusal::FullLine)?;
+        line.words.push(word).map_err(|_| TurnRefusal::FullLine)?;
         let more = rules.len().saturating_sub(line.rules.len());
         line.rules = rules;
         Ok(u16::try_from(more).unwrap_or(u16::MAX))
     }
 
     // What the slip tells.
-    pub(crate) fn judge(&mut self, designer: u8) -> Result<(u8, u16, u16), Refusal> {
+    pub(crate) fn judge(&mut self, designer: u8) -> Result<(u8, u16, u16), TurnRefusal> {
         let language = self.language;
         let line = self.line(designer, false)?;
         line.rules = line.rules_at(language, 0)?;
@@ -112,7 +116,7 @@ impl Account {
     }
 
     // The entry of a designer's judged line.
-    fn entry(&mut self, designer: u8) -> Result<BoundedList<u16, 1027>, Refusal> {
+    fn entry(&mut self, designer: u8) -> Result<BoundedList<u16, 1027>, TurnRefusal> {
         let line = *self.line(designer, true)?;
         let mut entry = BoundedList::new(0);
         let head = [
@@ -123,23 +127,23 @@ impl Account {
         for part in &[&head[..], line.words.as_slice(), line.rules.as_slice()] {
             entry
                 .extend_from_slice(part)
-                .map_err(|_| Refusal::FullBook)?;
+                .map_err(|_| TurnRefusal::FullBook)?;
         }
         Ok(entry)
     }
 
-    pub(crate) fn book(&mut self, designer: u8) -> Result<u64, Refusal> {
+    pub(crate) fn book(&mut self, designer: u8) -> Result<u64, TurnRefusal> {
         let entry = self.entry(designer)?;
         self.numbers
             .extend_from_slice(entry.as_slice())
-            .map_err(|_| Refusal::FullBook)?;
+            .map_err(|_| TurnRefusal::FullBook)?;
         *self.line(designer, true)? = AccountLine::new();
         self.booked = self.booked.saturating_add(1);
         Ok(self.booked)
     }
 
     // A judged line withdrawn, or an open one cleared.
-    pub(crate) fn freshen(&mut self, designer: u8, judged: bool) -> Result<(), Refusal> {
+    pub(crate) fn freshen(&mut self, designer: u8, judged: bool) -> Result<(), TurnRefusal> {
         *self.line(designer, judged)? = AccountLine::new();
         Ok(())
     }

@@ -1,6 +1,6 @@
 // Tables to open plans with, and turns that are not to be refused.
 use book::Book;
-use grammar::Refusal;
+use line::TurnRefusal;
 use plan::{Plan, Slip};
 use std::process::Abort;
 use tables::Tables;
@@ -36,7 +36,7 @@ pub(crate) fn bring_in_vain<B: Book>(
     plan: &mut Plan<B>,
     designer: u8,
     words: &[u16],
-    refusal: Refusal,
+    refusal: TurnRefusal,
 ) {
     for word in words {
         assert_eq!(rt; plan.word(designer, *word), Err(refusal), "word {}", *word);
@@ -55,7 +55,11 @@ pub(crate) fn bring_line<B: Book>(
 }
 
 // Judges a line in vain.
-pub(crate) fn not_judged<B: Book>(rt: &impl Abort, plan: &mut Plan<B>, designer: u8) -> Refusal {
+pub(crate) fn not_judged<B: Book>(
+    rt: &impl Abort,
+    plan: &mut Plan<B>,
+    designer: u8,
+) -> TurnRefusal {
     match plan.judge(designer) {
         Ok(_slip) => panic!(rt; "judged"),
         Err(refusal) => refusal,
@@ -88,7 +92,7 @@ pub(crate) fn not_booked<B: Book>(
     rt: &impl Abort,
     plan: &mut Plan<B>,
     slip: Slip,
-) -> (Refusal, Slip) {
+) -> (TurnRefusal, Slip) {
     match plan.book(slip) {
         Ok(count) => panic!(rt; "booked as {count}"),
         Err(refused) => refused,
@@ -100,7 +104,7 @@ pub(crate) fn not_withdrawn<B: Book>(
     rt: &impl Abort,
     plan: &mut Plan<B>,
     slip: Slip,
-) -> (Refusal, Slip) {
+) -> (TurnRefusal, Slip) {
     match plan.withdraw(slip) {
         Ok(()) => panic!(rt; "withdrawn"),
         Err(refused) => refused,

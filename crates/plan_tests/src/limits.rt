@@ -3,7 +3,7 @@ use super::fixtures::{
     SHEET_A, SHEET_E, book, bring, bring_in_vain, bring_line, not_judged, tables_of, told, withdraw,
 };
 use book::{Book, NumberPage};
-use grammar::Refusal;
+use line::TurnRefusal;
 use plan::Plan;
 use std::process::Abort;
 
@@ -13,8 +13,8 @@ static STEEP: &str =
 
 // Judges a line in vain, for its steps: it is as it was, and can be cleared.
 fn too_many_steps<B: Book>(rt: &impl Abort, plan: &mut Plan<B>, designer: u8) {
-    assert_eq!(rt; not_judged(rt, plan, designer), Refusal::Reductions);
-    assert_eq!(rt; not_judged(rt, plan, designer), Refusal::Reductions);
+    assert_eq!(rt; not_judged(rt, plan, designer), TurnRefusal::Reductions);
+    assert_eq!(rt; not_judged(rt, plan, designer), TurnRefusal::Reductions);
     assert_eq!(rt; plan.clear(designer), Ok(()));
 }
 
@@ -27,7 +27,7 @@ fn steps_up_to_768(rt: HostRuntime) {
         assert_eq!(rt; told(&slip), (3, 191, 765), "round {round}");
         withdraw(&rt, &mut plan, slip);
         bring(&rt, &mut plan, 3, &[1; 192]);
-        assert_eq!(rt; not_judged(&rt, &mut plan, 3), Refusal::Reductions);
+        assert_eq!(rt; not_judged(&rt, &mut plan, 3), TurnRefusal::Reductions);
         // refused, the line has 192 words and is open
         assert_eq!(rt; plan.word(3, 1), Ok(3), "round {round}");
         too_many_steps(&rt, &mut plan, 3);
@@ -41,8 +41,8 @@ fn a_word_may_come_to_768_steps(rt: HostRuntime) {
     let mut plan = Plan::open(tables_of(&rt, STEEP), NumberPage::open(&mut memory));
     for _ in 0..2 {
         bring(&rt, &mut plan, 5, &[1; 193]);
-        bring_in_vain(&rt, &mut plan, 5, &[1, 1], Refusal::Reductions);
-        bring_in_vain(&rt, &mut plan, 5, &[0, 2], Refusal::NoWord);
+        bring_in_vain(&rt, &mut plan, 5, &[1, 1], TurnRefusal::Reductions);
+        bring_in_vain(&rt, &mut plan, 5, &[0, 2], TurnRefusal::NoWord);
         too_many_steps(&rt, &mut plan, 5);
     }
 }
@@ -61,7 +61,7 @@ fn words_up_to_256(rt: HostRuntime) {
         &mut plan,
         7,
         &[0, 1, 2, 3, 4, 65535],
-        Refusal::FullLine,
+        TurnRefusal::FullLine,
     );
     assert_eq!(rt; plan.clear(7), Ok(()));
     let slip = bring_line(&rt, &mut plan, 7, &words);

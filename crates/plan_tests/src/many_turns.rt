@@ -3,7 +3,7 @@ use super::account::{Account, ROOM};
 use super::fixtures::{tables_of, told};
 use super::language::Language;
 use book::{Book, NumberPage};
-use grammar::Refusal;
+use line::TurnRefusal;
 use plan::{Plan, Slip};
 use std::mem::replace;
 use std::process::Abort;
@@ -51,7 +51,7 @@ impl<'a> Tried<'a> {
     }
 
     // Remembers a refusal.
-    fn refuse(&mut self, refusal: Refusal) {
+    fn refuse(&mut self, refusal: TurnRefusal) {
         if let Some(refused) = self.refused.get_mut(usize::from(refusal.number())) {
             *refused = true;
         }

@@ -1,7 +1,7 @@
 // Bookings in full pages, and what pages hold of many designers' lines.
 use super::fixtures::{SHEET_A, book, bring, bring_line, not_booked, tables_of, told, withdraw};
 use book::{Book, NumberPage, PrintedPage};
-use grammar::Refusal;
+use line::TurnRefusal;
 use plan::Plan;
 use std::process::Abort;
 
@@ -12,10 +12,10 @@ fn nine_numbers_are_too_few(rt: HostRuntime) {
     let mut plan = Plan::open(tables_of(&rt, SHEET_A), NumberPage::open(&mut memory));
     let slip = bring_line(&rt, &mut plan, 3, &[1, 2, 3]);
     let (refusal, slip) = not_booked(&rt, &mut plan, slip);
-    assert_eq!(rt; (refusal, told(&slip)), (Refusal::FullBook, (3, 3, 4)));
+    assert_eq!(rt; (refusal, told(&slip)), (TurnRefusal::FullBook, (3, 3, 4)));
     assert_eq!(rt; (plan.page().len(), plan.page().free()), (0, 9));
     // the line is judged still
-    assert_eq!(rt; plan.word(3, 3), Err(Refusal::Status));
+    assert_eq!(rt; plan.word(3, 3), Err(TurnRefusal::Status));
     withdraw(&rt, &mut plan, slip);
     assert_eq!(rt; plan.word(3, 1), Ok(0));
     assert_eq!(rt; memory, [77; 9]);
@@ -44,11 +44,11 @@ fn a_page_fills_up(rt: HostRuntime) {
     let short = bring_line(&rt, &mut plan, 2, &[1, 2, 3]);
     let shortest = bring_line(&rt, &mut plan, 4, &[1, 2]);
     let (refusal, long) = not_booked(&rt, &mut plan, long);
-    assert_eq!(rt; refusal, Refusal::FullBook);
+    assert_eq!(rt; refusal, TurnRefusal::FullBook);
     assert_eq!(rt; book(&rt, &mut plan, short), 3);
     let (refusal, shortest) = not_booked(&rt, &mut plan, shortest);
-    assert_eq!(rt; refusal, Refusal::FullBook);
-    assert_eq!(rt; plan.book_words(0, &[1, 2]), Err(Refusal::FullBook));
+    assert_eq!(rt; refusal, TurnRefusal::FullBook);
+    assert_eq!(rt; plan.book_words(0, &[1, 2]), Err(TurnRefusal::FullBook));
     withdraw(&rt, &mut plan, long);
     withdraw(&rt, &mut plan, shortest);
     assert_eq!(rt; (plan.page().len(), plan.page().free()), (34, 5));
@@ -107,7 +107,7 @@ fn a_printed_page_has_a_line_for_each_number(rt: HostRuntime) {
     let mut plan = Plan::open(tables_of(&rt, SHEET_A), PrintedPage::open(&mut memory));
     assert_eq!(rt; plan.book_words(6, &[1, 2, 3]), Ok(1));
     assert_eq!(rt; plan.book_words(0, &[1, 2]), Ok(2));
-    assert_eq!(rt; plan.book_words(0, &[1, 2]), Err(Refusal::FullBook));
+    assert_eq!(rt; plan.book_words(0, &[1, 2]), Err(TurnRefusal::FullBook));
     assert_eq!(rt; plan.page().free(), 0);
     assert_eq!(rt;
         memory.as_slice(),

@@ -4,13 +4,13 @@ use super::fixtures::{
     told, withdraw,
 };
 use book::{Book, NumberPage};
-use grammar::Refusal;
+use line::TurnRefusal;
 use plan::Plan;
 use std::process::Abort;
 use tables::Tables;
 
 // What each call without a slip tells, of the same designer.
-fn all_told<B: Book>(rt: &impl Abort, plan: &mut Plan<B>, designer: u8, refusal: Refusal) {
+fn all_told<B: Book>(rt: &impl Abort, plan: &mut Plan<B>, designer: u8, refusal: TurnRefusal) {
     bring_in_vain(rt, plan, designer, &[0, 1, 2, 3, 4, 65535], refusal);
     assert_eq!(rt;
         not_judged(rt, plan, designer),
@@ -28,14 +28,17 @@ fn blank_tables_refuse_every_turn(rt: HostRuntime) {
     let mut blank = Plan::open(Tables::new(), NumberPage::open(&mut memory));
     let mut plan = Plan::open(tables_of(&rt, SHEET_A), NumberPage::open(&mut other));
     for designer in 0..=255 {
-        all_told(&rt, &mut blank, designer, Refusal::Blank);
-        assert_eq!(rt; blank.book_words(designer, &[1, 2]), Err(Refusal::Blank));
+        all_told(&rt, &mut blank, designer, TurnRefusal::Blank);
+        assert_eq!(rt;
+            blank.book_words(designer, &[1, 2]),
+            Err(TurnRefusal::Blank)
+        );
     }
     let slip = bring_line(&rt, &mut plan, 0, &[1, 2]);
     let (refusal, slip) = not_booked(&rt, &mut blank, slip);
-    assert_eq!(rt; (refusal, told(&slip)), (Refusal::Blank, (0, 2, 3)));
+    assert_eq!(rt; (refusal, told(&slip)), (TurnRefusal::Blank, (0, 2, 3)));
     let (refusal, slip) = not_withdrawn(&rt, &mut blank, slip);
-    assert_eq!(rt; (refusal, told(&slip)), (Refusal::Blank, (0, 2, 3)));
+    assert_eq!(rt; (refusal, told(&slip)), (TurnRefusal::Blank, (0, 2, 3)));
     withdraw(&rt, &mut plan, slip);
     assert!(rt; blank.page().is_empty());
 }
@@ -48,10 +51,10 @@ fn designers_above_7_are_refused(rt: HostRuntime) {
     let slip = bring_line(&rt, &mut plan, 0, &[1, 2]);
     bring(&rt, &mut plan, 7, &[1]);
     for designer in 8..=255 {
-        all_told(&rt, &mut plan, designer, Refusal::NoDesigner);
+        all_told(&rt, &mut plan, designer, TurnRefusal::NoDesigner);
         assert_eq!(rt;
             plan.book_words(designer, &[1, 2]),
-            Err(Refusal::NoDesigner)
+            Err(TurnRefusal::NoDesigner)
         );
     }
     assert_eq!(rt; plan.word(7, 2), Ok(0));
@@ -69,9 +72,9 @@ fn judged_lines_are_kept(rt: HostRuntime) {
     let mut plan = Plan::open(tables_of(&rt, SHEET_A), NumberPage::open(&mut memory));
     for line in &[&words[0..2], &words[0..3], &words[0..256]] {
         let slip = bring_line(&rt, &mut plan, 1, line);
-        all_told(&rt, &mut plan, 1, Refusal::Status);
+        all_told(&rt, &mut plan, 1, TurnRefusal::Status);
         withdraw(&rt, &mut plan, slip);
-        assert_eq!(rt; plan.word(1, 3), Err(Refusal::NoAction));
+        assert_eq!(rt; plan.word(1, 3), Err(TurnRefusal::NoAction));
     }
     assert!(rt; plan.page().is_empty());
 }
@@ -88,8 +91,8 @@ fn wrong_words_are_refused(rt: HostRuntime) {
         (3, 0, [1, 2]),
     ] {
         let none = [0, 4, 5, 256, 257, 258, 259, 65535];
-        bring_in_vain(&rt, &mut plan, 4, &none, Refusal::NoWord);
-        bring_in_vain(&rt, &mut plan, 4, wrong, Refusal::NoAction);
+        bring_in_vain(&rt, &mut plan, 4, &none, TurnRefusal::NoWord);
+        bring_in_vain(&rt, &mut plan, 4, wrong, TurnRefusal::NoAction);
         assert_eq!(rt; plan.word(4, *word), Ok(*reductions), "word {}", *word);
     }
     let slip = plan.judge(4).expect(&rt, "judged");
@@ -103,7 +106,7 @@ fn beginnings_are_not_judged(rt: HostRuntime) {
     let mut memory = [77; 20];
     let mut plan = Plan::open(tables_of(&rt, SHEET_A), NumberPage::open(&mut memory));
     for word in &[1, 2] {
-        assert_eq!(rt; not_judged(&rt, &mut plan, 4), Refusal::NoAction);
+        assert_eq!(rt; not_judged(&rt, &mut plan, 4), TurnRefusal::NoAction);
         assert_eq!(rt; plan.word(4, *word), Ok(0));
     }
     let slip = plan.judge(4).expect(&rt, "judged");

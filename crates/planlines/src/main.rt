@@ -1,15 +1,12 @@
 // Books the lines on standard input by the written rule sheet in front of them, and prints the answers and the book.
 #![tactic(auto)]
 
-ghost use Rattle.planlines.specs.ReadSheets.{SheetRead};
-
-use book::{Book, PrintedPage};
+use book::PrintedPage;
 use console::read_text;
-use grammar::Refusal;
-use plan::Plan;
+use plan::{LineAsked, book_all};
+use std::alloc::{AllocError, Global};
 use std::io::Write;
 use std::{env, io};
-use tables::Tables;
 use written::WrittenSheet;
 
 mod divide;
@@ -17,57 +14,61 @@ mod typed_line;
 mod usage;
 
 use divide::divide;
-use typed_line::read_line;
+use typed_line::{TypedLine, read_line};
 use usage::usage;
 
 // The bytes of the page: room for 10,000 numbers.
 const PAGE_BYTES: usize = 60000;
 
-fn print_refused(rt: &HostRuntime, refusal: Refusal) -> io::Result<()> {
-    let number = refusal.number();
+fn print_refused(rt: &HostRuntime, number: u8) -> io::Result<()> {
     println!(rt; "refused {number}")
 }
 
-// A sheet that opens, with its tables.
-fn read_sheet(text: &[u8]) -> Result<(WrittenSheet<'_>, Tables), Refusal>
-    ensures { SheetRead text.now result }
-{
-    let mut sheet = WrittenSheet::new();
-    sheet.open(text)?;
-    let mut tables = Tables::new();
-    tables.build(&sheet)?;
-    Ok((sheet, tables))
-}
-
-// Books each line and prints its answer. A last newline begins no line.
-fn book_lines<B: Book>(
-    rt: &HostRuntime,
+// What each line says. A last newline begins no line.
+fn read_lines(
+    alloc: Global,
     sheet: &WrittenSheet<'_>,
-    plan: &mut Plan<B>,
     lines: &[u8],
-) -> io::Result<()> {
+) -> Result<Vec<TypedLine>, AllocError> {
+    let mut typed = Vec::new(alloc);
     for part in lines.split_inclusive(|b| *b == b'\n') {
         let line = part.strip_suffix(b"\n").unwrap_or(part);
-        let typed = read_line(rt.alloc(), sheet, line)?;
-        match plan.book_words(typed.designer, &typed.words) {
-            Ok(count) => println!(rt; "booked {count}")?,
-            Err(refusal) => print_refused(rt, refusal)?,
+        typed.push(read_line(alloc, sheet, line)?)?;
+    }
+    Ok(typed)
+}
+
+fn print_answers(rt: &HostRuntime, lines: &[LineAsked<'_>]) -> io::Result<()> {
+    for line in lines {
+        match line.answer {
+            Some(Ok(count)) => println!(rt; "booked {count}")?,
+            Some(Err(refusal)) => print_refused(rt, refusal.number())?,
+            // Each line is answered.
+            None => {}
         }
     }
     Ok(())
 }
 
-// The answers of all lines, and then what the page holds.
-fn print_plan(
-    rt: &HostRuntime,
-    sheet: &WrittenSheet<'_>,
-    tables: Tables,
-    lines: &[u8],
-) -> io::Result<()> {
+// Books all lines by a sheet that opened; prints their answers, and then what the page holds.
+fn print_plan(rt: &HostRuntime, sheet: &WrittenSheet<'_>, lines: &[u8]) -> io::Result<()> {
+    let typed = read_lines(rt.alloc(), sheet, lines)?;
+    let mut asked: Vec<LineAsked<'_>> = typed
+        .iter()
+        .map(|line| LineAsked {
+            designer: line.designer,
+            words: &line.words,
+            answer: None,
+        })
+        .collect(rt.alloc())?;
     let mut memory = vec![in rt.alloc(); 0u8; PAGE_BYTES]?;
-    let mut plan = Plan::open(tables, PrintedPage::open(&mut memory));
-    book_lines(rt, sheet, &mut plan, lines)?;
-    rt.stdout().write_all(plan.page().bytes())
+    match book_all(sheet, PrintedPage::open(&mut memory), &mut asked) {
+        Ok(page) => {
+            print_answers(rt, &asked)?;
+            rt.stdout().write_all(page.bytes())
+        }
+        Err((refusal, _page)) => print_refused(rt, refusal.number()),
+    }
 }
 
 fn main(rt: HostRuntime) -> io::Result<()> {
@@ -78,8 +79,9 @@ fn main(rt: HostRuntime) -> io::Result<()> {
         return println!(rt; "too long");
     };
     let (text, lines) = divide(&input);
-    match read_sheet(text) {
-        Ok((sheet, tables)) => print_plan(&rt, &sheet, tables, lines),
-        Err(refusal) => print_refused(&rt, refusal),
+    let mut sheet = WrittenSheet::new();
+    match sheet.open(text) {
+        Ok(()) => print_plan(&rt, &sheet, lines),
+        Err(refusal) => print_refused(&rt, refusal.number()),
     }
 }

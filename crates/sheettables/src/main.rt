@@ -2,7 +2,6 @@
 #![tactic(auto)]
 
 use console::read_text;
-use grammar::Refusal;
 use std::{env, io};
 use tables::Tables;
 use written::WrittenSheet;
@@ -17,18 +16,9 @@ mod state;
 mod tests;
 mod usage;
 
-use refused::print_refused;
+use refused::{print_unbuilt, print_unopened};
 use state::State;
 use usage::usage;
-
-fn build<'a>(
-    sheet: &mut WrittenSheet<'a>,
-    tables: &mut Tables,
-    text: &'a [u8],
-) -> Result<(), Refusal> {
-    sheet.open(text)?;
-    tables.build(sheet)
-}
 
 fn print_states<'a>(
     rt: &HostRuntime,
@@ -58,9 +48,12 @@ fn main(rt: HostRuntime) -> io::Result<()> {
         return println!(rt; "too long");
     };
     let mut sheet = WrittenSheet::new();
+    if let Err(refusal) = sheet.open(&text) {
+        return print_unopened(&rt, &text, refusal);
+    }
     let mut tables = Tables::new();
-    match build(&mut sheet, &mut tables, &text) {
+    match tables.build(&sheet) {
         Ok(()) => print_states(&rt, &sheet, &tables),
-        Err(refusal) => print_refused(&rt, &text, &sheet, refusal),
+        Err(refusal) => print_unbuilt(&rt, &sheet, refusal),
     }
 }

@@ -1,17 +1,17 @@
 use super::item::{Item, length_of};
 use super::items::write_items;
 use super::spelled::{Spelled, start_of};
-use grammar::{Action, Refusal};
+use grammar::Action;
 use sheet::RuleSheet;
 use std::fmt;
-use tables::{Items, items_of};
+use tables::{BuildRefusal, Items, items_of};
 use written::WrittenSheet;
 
 // Why a sheet that opens has no tables.
 #[derive(Clone, Copy)]
 pub(crate) struct Reason<'a> {
     pub(crate) sheet: &'a WrittenSheet<'a>,
-    pub(crate) refusal: Refusal,
+    pub(crate) refusal: BuildRefusal,
 }
 
 impl<'a> Reason<'a> {
@@ -75,21 +75,24 @@ impl<'a> Reason<'a> {
 impl fmt::Display for Reason<'_> {
     fn fmt<W: fmt::Write>(&self, f: &mut fmt::Formatter<W>) -> fmt::Result {
         match self.refusal {
-            Refusal::Range { rule } => {
+            BuildRefusal::Range { rule } => {
                 writeln!(
                     f,
                     "rule {rule} has a code that is no word or phrase kind of the sheet"
                 )
             }
-            Refusal::Useless { nonterminal } => self.write_useless(f, nonterminal),
-            Refusal::States => writeln!(f, "the sheet needs more than 96 states"),
-            Refusal::Conflict {
+            BuildRefusal::Useless { nonterminal } => self.write_useless(f, nonterminal),
+            BuildRefusal::States => writeln!(f, "the sheet needs more than 96 states"),
+            BuildRefusal::Conflict {
                 state,
                 word,
                 first,
                 second,
             } => self.write_conflict(f, state, word, first, second),
-            _ => writeln!(f, "a written sheet is not refused so"),
+            BuildRefusal::Limits => writeln!(
+                f,
+                "a count or the length of a right side is outside its limits"
+            ),
         }
     }
 }

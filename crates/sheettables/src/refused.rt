@@ -1,21 +1,28 @@
 // A refusal in numbers, and then in plain words.
 use super::reason::Reason;
 use explain::Explanation;
-use grammar::Refusal;
 use std::io;
-use written::WrittenSheet;
+use tables::BuildRefusal;
+use written::{WrittenRefusal, WrittenSheet};
 
-// Not inlined, so that a sheet that builds does not touch the stack that telling a conflict takes.
-#[inline(never)]
-pub(crate) fn print_refused(
+// A sheet that does not open.
+pub(crate) fn print_unopened(
     rt: &HostRuntime,
     text: &[u8],
-    sheet: &WrittenSheet<'_>,
-    refusal: Refusal,
+    refusal: WrittenRefusal,
 ) -> io::Result<()> {
     println!(rt; "refused {refusal}")?;
-    match Explanation::of(text, refusal) {
-        Some(explanation) => println!(rt; "{explanation}"),
-        None => print!(rt; "{}", Reason { sheet, refusal }),
-    }
+    let explanation = Explanation::of(text, refusal);
+    println!(rt; "{explanation}")
+}
+
+// A sheet that opens, and has no tables. Not inlined, so that a sheet that builds does not touch the stack that telling a conflict takes.
+#[inline(never)]
+pub(crate) fn print_unbuilt(
+    rt: &HostRuntime,
+    sheet: &WrittenSheet<'_>,
+    refusal: BuildRefusal,
+) -> io::Result<()> {
+    println!(rt; "refused {refusal}")?;
+    print!(rt; "{}", Reason { sheet, refusal })
 }

@@ -1,5 +1,4 @@
 // What is told of a sheet that has no tables, and of a state of one that has.
-use super::build;
 use super::reason::Reason;
 use super::state::State;
 use std::alloc::Global;
@@ -10,10 +9,9 @@ use written::WrittenSheet;
 
 fn is_refused(rt: &impl Abort, heap: Global, text: &str, told: &str) -> Result<(), Fail> {
     let mut sheet = WrittenSheet::new();
+    assert_eq!(rt; sheet.open(text.as_bytes()), Ok(()), "{text}");
     let mut tables = Tables::new();
-    let refusal = build(&mut sheet, &mut tables, text.as_bytes())
-        .err()
-        .ok_or("has tables")?;
+    let refusal = tables.build(&sheet).err().ok_or("has tables")?;
     let sheet = &sheet;
     let reason = Reason { sheet, refusal };
     assert_eq!(rt;
@@ -121,11 +119,8 @@ fn tells_state(
 ) -> Result<(), Fail> {
     let mut sheet = WrittenSheet::new();
     let mut tables = Tables::new();
-    assert_eq!(rt;
-        build(&mut sheet, &mut tables, text.as_bytes()),
-        Ok(()),
-        "{text}"
-    );
+    assert_eq!(rt; sheet.open(text.as_bytes()), Ok(()), "{text}");
+    assert_eq!(rt; tables.build(&sheet), Ok(()), "{text}");
     let state = State {
         sheet: &sheet,
         tables: &tables,
