@@ -5,7 +5,7 @@ use Rattle.grammar.specs.Derivation.{is_terminal}
 use Rattle.grammar.specs.States.{Automaton}
 use Rattle.grammar.specs.Cells.{Exact}
 use Rattle.grammar.specs.Machine.{Run, halt, shift, reduce}
-use Rattle.grammar.specs.Line.{Line, Ended, stuck, full, shifted, accepted, runs, Turned, after, refused, after_word, take_word, Open, fresh, taken}
+use Rattle.grammar.specs.Line.{Line, fresh_line, Ended, stuck, full, shifted, accepted, runs, Turned, after, refused, after_word, take_word, Open, fresh, taken}
 use Rattle.grammar.specs.declared.action.Action.{Action}
 use Rattle.grammar.proofs.Runs.{then}
 use Rattle.grammar.proofs.MachineEnds.{Says, says}
@@ -62,10 +62,19 @@ module _ {G : Grammar} {A : Automaton} where
   pub states_of : (l : Line) → Standing G A l → length l.states ≤ 1 + length l.words + length l.rules
   states_of l st = deep l.words (st.run [])
 
--- Every open line stands behind its words.
-pub standing : (G : Grammar) (A : Automaton) (cells : ℕ → ℕ → Option Action) → Exact G A cells → {l : Line} → Open G A cells l → Standing G A l
-standing G A cells exact fresh = record { few_words = omega arith; few_rules = omega arith; run = λ k. halt }
-standing G A cells exact (taken {l = l} w x e) =
-    let n = 768 - length l.rules in
-    let m = machine_says G A cells l w e not_after not_after in
-    ended_word w (runs G A cells n w l.states) (standing G A cells exact x) m.0 (says G A cells exact n w l.states) m.1
+module _ (G : Grammar) (A : Automaton) where
+  pub standing_fresh : Standing G A fresh_line
+  standing_fresh = record { few_words = omega arith; few_rules = omega arith; run = λ k. halt }
+
+  module _ (cells : ℕ → ℕ → Option Action) (exact : Exact G A cells) where
+    -- A line stands behind a word that it takes.
+    pub standing_taken : {l m : Line} (w : ℕ) → Standing G A l → take_word G A cells l w ≡ after m → Standing G A m
+    standing_taken {l} w st e =
+        let n = 768 - length l.rules in
+        let m = machine_says G A cells l w e not_after not_after in
+        ended_word w (runs G A cells n w l.states) st m.0 (says G A cells exact n w l.states) m.1
+
+    -- Every open line stands behind its words.
+    pub standing : {l : Line} → Open G A cells l → Standing G A l
+    standing fresh = standing_fresh
+    standing (taken w x e) = standing_taken w (standing x) e

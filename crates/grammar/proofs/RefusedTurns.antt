@@ -22,10 +22,9 @@ module _ {G : Grammar} {A : Automaton} (cells : ℕ → ℕ → Option Action) (
       let y : Run G A (0 ∷ []) l.words l.rules l.states [] = subst (λ i. Run G A (0 ∷ []) i l.rules l.states []) (append-nil l.words) (st.run []) in
       omega (arith, most_rules free x y, most_rules free y x)
 
-  -- Over the words of an open line and a word that it takes no run makes a 769th reduction.
-  pub taken_few : (l m : Line) (w : ℕ) → Open G A cells l → take_word G A cells l w ≡ after m → FewReductions G A (l.words ++ w ∷ [])
-  taken_few l m w x e ps τ j r =
-      let st = standing G A cells exact (taken w x e) in
+  -- Over the words of a line and a word that it takes no run makes a 769th reduction.
+  pub taken_few : (l m : Line) (w : ℕ) → Standing G A m → take_word G A cells l w ≡ after m → FewReductions G A (l.words ++ w ∷ [])
+  taken_few l m w st e ps τ j r =
       let y : Run G A (0 ∷ []) (l.words ++ w ∷ []) m.rules m.states [] = subst (λ i. Run G A (0 ∷ []) i m.rules m.states []) (append-nil m.words ∙ words_after G A cells l m w e) (st.run []) in
       omega (arith, most_rules (conflict_free G A cells exact) y r, st.few_rules)
 

@@ -68,8 +68,7 @@ module _ {G : Grammar} {A : Automaton} (v : Valid G) (L : Laws G A) (cells : ℕ
       let y = begins_ended few z r.0 (runs G A cells n w l.states) (says G A cells exact n w l.states) (agrees G A cells exact n r.2) in
       (y.0, untested (after_word l w (runs G A cells n w l.states)) (lt-leb 256 (length l.words) h) (ap not (is_terminal_lem G w (begins_terminal v l.words w b))) ∙ y.1)
 
--- What an open line has taken begins a sentence.
-pub taken_begins : {G : Grammar} {A : Automaton} → Valid G → Laws G A → AllProductive G → (cells : ℕ → ℕ → Option Action) → Exact G A cells → (l m : Line) (w : ℕ) → Open G A cells l → take_word G A cells l w ≡ after m → Begins G (l.words ++ w ∷ [])
-taken_begins {G} {A} v L p cells exact l m w x e =
-    let st = standing G A cells exact (taken w x e) in
+-- What a line has taken begins a sentence.
+pub taken_begins : {G : Grammar} {A : Automaton} → Valid G → Laws G A → AllProductive G → (cells : ℕ → ℕ → Option Action) → Exact G A cells → (l m : Line) (w : ℕ) → Standing G A m → take_word G A cells l w ≡ after m → Begins G (l.words ++ w ∷ [])
+taken_begins {G} {A} v L p cells exact l m w st e =
     subst (λ ws. Begins G ws) (words_after G A cells l m w e) (begins_sentence v L p m.words [] m.rules m.states (st.run []))

@@ -16,4 +16,6 @@ mod pages;
 #[cfg(test)]
 mod refusals;
 #[cfg(test)]
+mod runs;
+#[cfg(test)]
 mod slips;
