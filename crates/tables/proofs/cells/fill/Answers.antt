@@ -34,12 +34,10 @@ returns-in_err-row c =
     let told = c.in_err-row.ensures.conflict in
     let p = err_from_is_err_and c.from_residual.result c.from_residual.ensures.1 in
     let k = told.0 in
-    let low : n < m.states.count =
-    omega (arith, c.loop-state-test.true, c.loop-state.invariant.0) in
-    let upto = rows ++ drop m.states.count blank in
-    let first =
-    first_conflict m.rules m.states n low upto c.loop-state.invariant.1 row
-    c.fill_row.ensures k told.1 in
+    let upto = c.loop-state.invariant in
+    let low : n < m.states.count = omega (arith, c.loop-state-test.true, upto.0) in
+    let all = rows ++ drop m.states.count blank in
+    let first = first_conflict m.rules m.states n low all upto.1 row c.fill_row.ensures k told.1 in
     rw (p.1, p.2) (n, k.word, k.first, k.second, told.2, first)
 
 pub returns : goal.returns

@@ -1,4 +1,5 @@
 use Rattle.std.proofs.Common.{◌≡◌, suc, ◌+◌, ◌-◌, ◌<◌, length, rules, get_or, ap, subst, arith}
+use Rattle.grammar.specs.Outcome.{InRange}
 use Rattle.tables.specs.Admitted.{Unread, out_of_range}
 use Rattle.tables.specs.BuildRefusals.{told}
 use Rattle.tables.specs.SheetArrays.{Sides, Lengths}
@@ -20,11 +21,10 @@ pub returns-in_err-codes : goal.returns-in_err-codes
 returns-in_err-codes g c =
     let G = g.S.RuleSheet.meaning c.args.sheet.now in
     let s = c.loop-rule in
-    let off =
-    lowest G s.rule s.left s.right s.invariant (omega arith) (omega arith) λ range.
-    c.in_err-codes.ensures.1 range.right in
-    let unread : Unread G (told c.in_err-codes.field-0.0) =
-    rw c.in_err-codes.ensures.0 (out_of_range c.requires.within off) in
+    let e = c.in_err-codes in
+    let off : InRange G s.rule → ⊥ = λ range. e.ensures.1 range.right in
+    let low = lowest G s.rule s.left s.right s.invariant (omega arith) (omega arith) off in
+    let is : Unread G (told e.field-0.0) = rw e.ensures.0 (out_of_range c.requires.within low) in
     search rules
 
 pub loop-rule-preserved : goal.loop-rule-preserved
