@@ -5,12 +5,12 @@ use Rattle.grammar.specs.Derivation.{Derives, ShortSentence, Sentence, Begins}
 use Rattle.grammar.specs.States.{Automaton, Laws}
 use Rattle.grammar.specs.Cells.{Exact}
 use Rattle.grammar.specs.Machine.{Run, FewReductions}
-use Rattle.grammar.specs.Line.{Line, Ended, stuck, full, shifted, accepted, runs, after, refused, after_word, after_judging, take_word, judge_line, Open, taken}
+use Rattle.grammar.specs.Line.{Line, Ended, stuck, full, shifted, accepted, runs, after, refused, after_word, after_judging, take_word, judge_line}
 use Rattle.grammar.specs.declared.action.Action.{Action}
 use Rattle.grammar.proofs.Runs.{most_rules}
 use Rattle.grammar.proofs.AcceptedPrefixes.{no_middle}
 use Rattle.grammar.proofs.MachineEnds.{Says, says, Agrees, agrees, conflict_free}
-use Rattle.grammar.proofs.OpenLines.{Standing, standing, not_after, same_cause, machine_says}
+use Rattle.grammar.proofs.OpenLines.{Standing, not_after, same_cause, machine_says}
 use Rattle.grammar.proofs.JudgedLines.{rest, rest_end, short_judged}
 use Rattle.grammar.proofs.TakenWords.{overfull, words_after}
 

@@ -9,7 +9,7 @@ use Rattle.grammar.specs.Derivation.{Derives, Begins}
 use Rattle.grammar.specs.States.{Automaton, Laws}
 use Rattle.grammar.specs.Cells.{Exact}
 use Rattle.grammar.specs.Machine.{halt, reduce, FewReductions}
-use Rattle.grammar.specs.Line.{Line, Ended, stuck, full, shifted, accepted, runs, Turned, after, refused, after_word, take_word, Open, taken}
+use Rattle.grammar.specs.Line.{Line, Ended, stuck, full, shifted, accepted, runs, Turned, after, refused, after_word, take_word}
 use Rattle.grammar.specs.declared.action.Action.{Action}
 use Rattle.grammar.proofs.Forests.{terminals_of}
 use Rattle.grammar.proofs.Runs.{then}
@@ -18,7 +18,7 @@ use Rattle.grammar.proofs.FormSteps.{is_terminal_lem}
 use Rattle.grammar.proofs.Sentences.{tree_of, begins_sentence}
 use Rattle.grammar.proofs.AcceptedPrefixes.{no_middle}
 use Rattle.grammar.proofs.MachineEnds.{Says, says, Agrees, agrees}
-use Rattle.grammar.proofs.OpenLines.{Standing, standing, same_line, not_after, machine_says}
+use Rattle.grammar.proofs.OpenLines.{Standing, same_line, not_after, machine_says}
 use Rattle.grammar.proofs.JudgedLines.{rest}
 
 middle_terminal : (G : Grammar) (us : List ℕ) (w : ℕ) (z : List ℕ) → AllTerminals G ((us ++ w ∷ []) ++ z) → IsTerminal G w

@@ -1,5 +1,5 @@
 -- Rightmost derivations: each rule replaces the last nonterminal of the form, its own left side, by its right side.
-use Rattle.std.specs.Prelude.{◌≡◌, ℕ, ◌≤◌, Bool, cond, ◌&&◌, List, [], ◌∷◌, ◌++◌, length, ◌==◌, nat_le, Option, Some, None, option_and_then}
+use Rattle.std.specs.Prelude.{ℕ, ◌≤◌, Bool, cond, ◌&&◌, List, [], ◌∷◌, ◌++◌, length, ◌==◌, nat_le, Option, Some, None, option_and_then}
 use Rattle.grammar.specs.Grammar.{Grammar, IsRule, AllTerminals, left_side, right_side, start}
 
 -- A form, the rules that replace its last nonterminal one after the other, and the words that are left.

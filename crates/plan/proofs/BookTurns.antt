@@ -11,9 +11,6 @@ use Rattle.grammar.specs.declared.action.Action.{Action}
 use Rattle.grammar.proofs.Lawful.{lawful_states}
 use Rattle.grammar.proofs.MachineEnds.{conflict_free}
 use Rattle.grammar.proofs.Sentences.{one_derivation}
-use Rattle.grammar.proofs.OpenLines.{standing}
-use Rattle.grammar.proofs.JudgedLines.{judged_rules}
-use Rattle.grammar.proofs.TurnEffects.{judged_words}
 use Rattle.line.specs.Answers.{Answer, given, refused}
 use Rattle.plan.specs.Turns.{SlipModel, Turn, book}
 use Rattle.plan.specs.Account.{account, line_of}
@@ -31,9 +28,8 @@ use Rattle.plan.proofs.EntryLists.{same_entry, entries_more}
 use Rattle.plan.proofs.ShownTurns.{line_shown, shown_same, shown_booked}
 
 -- The entry of a judged line has its one derivation, reversed.
-judged_entry : {G : Grammar} {A : Automaton} (v : Valid G) (L : Laws G A) (cells : ℕ → ℕ → Option Action) → Exact G A cells → (d : ℕ) (l : Line) → Stands G A cells true l → EntryOf G (record { designer = d; words = l.words }) (entry d l.words l.rules)
-judged_entry {G} {A} v L cells exact d l (k, o, e) =
-    let y : Derives G (reverse l.rules) l.words = subst (λ ws. Derives G (reverse l.rules) ws) (sym (judged_words G A cells k l e)) (judged_rules v L cells exact k (standing G A cells exact o) l e) in
+judged_entry : {G : Grammar} {A : Automaton} (v : Valid G) (L : Laws G A) (cells : ℕ → ℕ → Option Action) → Exact G A cells → (d : ℕ) (l : Line) → Derives G (reverse l.rules) l.words → EntryOf G (record { designer = d; words = l.words }) (entry d l.words l.rules)
+judged_entry {G} {A} v L cells exact d l y =
     record {
       derivation = reverse l.rules;
       derives = y;
@@ -41,15 +37,15 @@ judged_entry {G} {A} v L cells exact d l (k, o, e) =
       is = ap (λ rs. entry d l.words rs) (sym (reverse-reverse l.rules));
     }
 
-module _ (G : Grammar) (n : ℕ) (A : Automaton) (cells : ℕ → ℕ → Option Action) (T : TablesOf G n A cells) {turns : List Turn} {b₀ : List ℕ} {n₀ : ℕ} {m : Model} {list : List ℕ} {free : ℕ} (s : Shows G A cells turns b₀ n₀ m list free) (p : SlipModel) where
+module _ (G : Grammar) (n : ℕ) (A : Automaton) (cells : ℕ → ℕ → Option Action) (T : TablesOf G n A cells) {turns : List Turn} {b₀ : List ℕ} {n₀ : ℕ} {m : Model} {list : List ℕ} {free : ℕ} (s : Shows G A.goto cells turns b₀ n₀ m list free) (p : SlipModel) where
   abbrev entry_of : Model → ℕ → List ℕ
   entry_of m d = entry_on d (plan_line m d)
 
   abbrev Booked : BookStepped → Type 0
-  Booked x = (list' : List ℕ) (free' : ℕ) → list' ≡ list ++ x.written → free ≡ free' + length x.written → Shows G A cells (turns ++ book p x.answer ∷ []) b₀ n₀ x.next list' free'
+  Booked x = (list' : List ℕ) (free' : ℕ) → list' ≡ list ++ x.written → free ≡ free' + length x.written → Shows G A.goto cells (turns ++ book p x.answer ∷ []) b₀ n₀ x.next list' free'
 
   not_booked : (c : ℕ) → RightBook G n₀ (account turns) p.designer (refused c) → Booked (not_booking m c)
-  not_booked c r list' free' e f = subst₂ (λ l i. Shows G A cells (turns ++ book p (refused c) ∷ []) b₀ n₀ m l i) (sym (e ∙ append-nil list)) (f ∙ add-zero free') (shown_same G A cells s (book p (refused c)) r refl)
+  not_booked c r list' free' e f = subst₂ (λ l i. Shows G A.goto cells (turns ++ book p (refused c) ∷ []) b₀ n₀ m l i) (sym (e ∙ append-nil list)) (f ∙ add-zero free') (shown_same G A cells s (book p (refused c)) r refl)
 
   book_unready : (c : ℕ) → Unready true p.designer (account_line (plan_line m p.designer)) c → Booked (not_booking m c)
   book_unready c u =
@@ -67,7 +63,7 @@ module _ (G : Grammar) (n : ℕ) (A : Automaton) (cells : ℕ → ℕ → Option
         let d = p.designer in
         let l = (plan_line m d).line in
         subst (λ i. EntryOf G (record { designer = d; words = i.words }) (entry_of m d)) (sym (line_shown G A cells s d))
-        (judged_entry T.given.valid (lawful_states G n A T.given.numbered) cells T.exact d l (subst (λ j. Stands G A cells j l) judged (s.stands d)))
+        (judged_entry T.given.valid (lawful_states G n A T.given.numbered) cells T.exact d l (subst (λ j. Stands G A.goto cells j l) judged (s.stands d)))
 
     no_book : free < length (entry_of m p.designer) → Booked (not_booking m 15)
     no_book h =

@@ -20,5 +20,5 @@ pub record TablesOf (G : Grammar) (n : ℕ) (A : Automaton) (cells : ℕ → ℕ
 abbrev pub Continues : Grammar → Automaton → (ℕ → ℕ → Option Action) → Model → List ℕ → ℕ → Turn → Model → List ℕ → ℕ → Type 0
 Continues G A cells m list free t m' list' free' =
     (turns : List Turn) (b₀ : List ℕ) (n₀ : ℕ)
-    → Shows G A cells turns b₀ n₀ m list free
-    → Shows G A cells (turns ++ t ∷ []) b₀ n₀ m' list' free'
+    → Shows G A.goto cells turns b₀ n₀ m list free
+    → Shows G A.goto cells (turns ++ t ∷ []) b₀ n₀ m' list' free'

@@ -28,9 +28,9 @@ use Rattle.plan.proofs.JudgeTurns.{judge_continues}
 use Rattle.plan.proofs.BookTurns.{book_continues}
 use Rattle.plan.proofs.FreshTurns.{withdraw_continues, clear_continues}
 
-module _ {G : Grammar} {A : Automaton} {cells : ℕ → ℕ → Option Action} where
+module _ {G : Grammar} {goto : ℕ → ℕ → Option ℕ} {cells : ℕ → ℕ → Option Action} where
   -- What is shown keeps the promises.
-  shown_kept : {turns : List Turn} {b₀ : List ℕ} {n₀ : ℕ} {m : Model} {list : List ℕ} {free : ℕ} → Shows G A cells turns b₀ n₀ m list free → Shows G A cells turns b₀ n₀ m list free × Promises G A.goto cells b₀ n₀ turns list free
+  shown_kept : {turns : List Turn} {b₀ : List ℕ} {n₀ : ℕ} {m : Model} {list : List ℕ} {free : ℕ} → Shows G goto cells turns b₀ n₀ m list free → Shows G goto cells turns b₀ n₀ m list free × Promises G goto cells b₀ n₀ turns list free
   shown_kept s = (s, promises s.law)
 
 -- The tables of a plan, if it has some.
@@ -73,12 +73,12 @@ book_kept t m list free s x m' numbers list' free' e f g =
 -- No turn keeps the law, and turns behind turns do.
 pub none_kept : (h : Held) (m : Model) (list : List ℕ) (free : ℕ) → KeepsLaw h m list free [] m list free
 none_kept blank m list free = tt
-none_kept (holding G n A cells) m list free = λ turns b₀ n₀ s. ∥∥₁_map s (λ x. shown_kept (subst (λ l. Shows G A cells l b₀ n₀ m list free) (sym (append-nil turns)) x))
+none_kept (holding G n A cells) m list free = λ turns b₀ n₀ s. ∥∥₁_map s (λ x. shown_kept (subst (λ l. Shows G A.goto cells l b₀ n₀ m list free) (sym (append-nil turns)) x))
 
 pub then_kept : (h : Held) (m m' m'' : Model) (list list' list'' : List ℕ) (free free' free'' : ℕ) (ts us : List Turn) → KeepsLaw h m list free ts m' list' free' → KeepsLaw h m' list' free' us m'' list'' free'' → KeepsLaw h m list free (ts ++ us) m'' list'' free''
 then_kept blank m m' m'' list list' list'' free free' free'' ts us f g = tt
 then_kept (holding G n A cells) m m' m'' list list' list'' free free' free'' ts us f g = λ turns b₀ n₀ s.
-    subst (λ l. ∥ Shows G A cells l b₀ n₀ m'' list'' free'' × Promises G A.goto cells b₀ n₀ l list'' free'' ∥₁) (append_assoc turns ts us)
+    subst (λ l. ∥ Shows G A.goto cells l b₀ n₀ m'' list'' free'' × Promises G A.goto cells b₀ n₀ l list'' free'' ∥₁) (append_assoc turns ts us)
     (g (turns ++ ts) b₀ n₀ (∥∥₁_map (f turns b₀ n₀ s) (λ x. x.0)))
 
 -- A plan of these tables, this book and these lines.

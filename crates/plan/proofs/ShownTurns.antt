@@ -4,7 +4,6 @@ use lib.ListN.{get_or-map}
 use Rattle.std.proofs.lemmas.List.{map-set}
 use Rattle.grammar.specs.Grammar.{Grammar}
 use Rattle.grammar.specs.States.{Automaton}
-use Rattle.grammar.specs.Line.{fresh}
 use Rattle.grammar.specs.declared.action.Action.{Action}
 use Rattle.plan.specs.Turns.{Turn}
 use Rattle.plan.specs.Account.{BookedLine, Account, after_turn, account, line_of, empty_line, with_line}
@@ -14,6 +13,7 @@ use Rattle.plan.specs.Law.{Written}
 use Rattle.line.specs.PlanLines.{PlanLine, fresh_plan_line}
 use Rattle.plan.specs.Model.{Model, opened_model, plan_line, with_plan_line}
 use Rattle.plan.specs.Shows.{account_line, Stands, Shows}
+use Rattle.plan.proofs.TableRuns.{fresh_behind}
 use Rattle.plan.proofs.TurnLists.{account_more, no_turns_lem, Found, last, earlier, found}
 
 -- What holds at every place of a list and of another value holds at every place when that is set.
@@ -38,14 +38,14 @@ pub record Kept (G : Grammar) (a : Account) (b₀ : List ℕ) (n₀ : ℕ) (m : 
 
 module _ (G : Grammar) (A : Automaton) (cells : ℕ → ℕ → Option Action) where
   abbrev StandsLine : PlanLine → Type 0
-  StandsLine l = Stands G A cells l.judged l.line
+  StandsLine l = Stands G A.goto cells l.judged l.line
 
-  pub opening : (b₀ : List ℕ) (n₀ : ℕ) → Shows G A cells [] b₀ n₀ opened_model b₀ n₀
+  pub opening : (b₀ : List ℕ) (n₀ : ℕ) → Shows G A.goto cells [] b₀ n₀ opened_model b₀ n₀
   opening b₀ n₀ =
       record {
         eight = refl;
         lines = refl;
-        stands = same_holds StandsLine fresh_plan_line fresh 8;
+        stands = same_holds StandsLine fresh_plan_line (fresh_behind G A.goto cells) 8;
         count = refl;
         law = record {
           right = λ before after t e. absurd (no_turns_lem before after t e);
@@ -53,7 +53,7 @@ module _ (G : Grammar) (A : Automaton) (cells : ℕ → ℕ → Option Action) w
         };
       }
 
-  module _ {turns : List Turn} {b₀ : List ℕ} {n₀ : ℕ} {m : Model} {list : List ℕ} {free : ℕ} (s : Shows G A cells turns b₀ n₀ m list free) where
+  module _ {turns : List Turn} {b₀ : List ℕ} {n₀ : ℕ} {m : Model} {list : List ℕ} {free : ℕ} (s : Shows G A.goto cells turns b₀ n₀ m list free) where
     -- A designer's line in the account is that of the plan.
     pub line_shown : (d : ℕ) → line_of (account turns) d ≡ account_line (plan_line m d)
     line_shown d = ap (λ l. get_or l d empty_line) s.lines ∙ get_or-map account_line m.lines d fresh_plan_line
@@ -62,7 +62,7 @@ module _ (G : Grammar) (A : Automaton) (cells : ℕ → ℕ → Option Action) w
     right_found t r before u (last p q) = subst₂ (λ l x. RightTurn G A.goto cells n₀ (account l) x) (sym p) (sym q) r
     right_found t r before u (earlier after p) = s.law.right before after u p
 
-    shown_more : (t : Turn) → RightTurn G A.goto cells n₀ (account turns) t → {m' : Model} {list' : List ℕ} {free' : ℕ} → length m'.lines ≡ 8 → ((d : ℕ) → StandsLine (plan_line m' d)) → Kept G (after_turn (account turns) t) b₀ n₀ m' list' free' → Shows G A cells (turns ++ t ∷ []) b₀ n₀ m' list' free'
+    shown_more : (t : Turn) → RightTurn G A.goto cells n₀ (account turns) t → {m' : Model} {list' : List ℕ} {free' : ℕ} → length m'.lines ≡ 8 → ((d : ℕ) → StandsLine (plan_line m' d)) → Kept G (after_turn (account turns) t) b₀ n₀ m' list' free' → Shows G A.goto cells (turns ++ t ∷ []) b₀ n₀ m' list' free'
     shown_more t r {m'} {list'} {free'} e f k =
         let k' = subst (λ a. Kept G a b₀ n₀ m' list' free') (sym (account_more (account []) turns t)) k in
         record {
@@ -74,20 +74,20 @@ module _ (G : Grammar) (A : Automaton) (cells : ℕ → ℕ → Option Action) w
         }
 
     -- A turn that changes nothing.
-    pub shown_same : (t : Turn) → RightTurn G A.goto cells n₀ (account turns) t → account turns ≡ after_turn (account turns) t → Shows G A cells (turns ++ t ∷ []) b₀ n₀ m list free
+    pub shown_same : (t : Turn) → RightTurn G A.goto cells n₀ (account turns) t → account turns ≡ after_turn (account turns) t → Shows G A.goto cells (turns ++ t ∷ []) b₀ n₀ m list free
     shown_same t r e = shown_more t r s.eight s.stands (subst (λ a. Kept G a b₀ n₀ m list free) e (record { lines = s.lines; count = s.count; written = s.law.written }))
 
     lines_set : (d : ℕ) (l : PlanLine) → set (account turns).lines d (account_line l) ≡ map account_line (set m.lines d l)
     lines_set d l = ap (λ ls. set ls d (account_line l)) s.lines ∙ sym (map-set account_line m.lines d l)
 
     -- A turn that changes one line.
-    pub shown_line : (t : Turn) → RightTurn G A.goto cells n₀ (account turns) t → (d : ℕ) (l : PlanLine) → StandsLine l → with_line (account turns) d (account_line l) ≡ after_turn (account turns) t → Shows G A cells (turns ++ t ∷ []) b₀ n₀ (with_plan_line m d l) list free
+    pub shown_line : (t : Turn) → RightTurn G A.goto cells n₀ (account turns) t → (d : ℕ) (l : PlanLine) → StandsLine l → with_line (account turns) d (account_line l) ≡ after_turn (account turns) t → Shows G A.goto cells (turns ++ t ∷ []) b₀ n₀ (with_plan_line m d l) list free
     shown_line t r d l x e =
         shown_more t r (length-set m.lines d l ∙ s.eight) (set_holds StandsLine fresh_plan_line l x m.lines s.stands d)
         (subst (λ a. Kept G a b₀ n₀ (with_plan_line m d l) list free) e (record { lines = lines_set d l; count = s.count; written = s.law.written }))
 
     -- A turn that makes a line fresh and adds it to the booked ones.
-    pub shown_booked : (t : Turn) → RightTurn G A.goto cells n₀ (account turns) t → (d c : ℕ) (b : BookedLine) {list' : List ℕ} {free' : ℕ} → record { lines = set (account turns).lines d empty_line; booked = (account turns).booked ++ b ∷ [] } ≡ after_turn (account turns) t → c ≡ min (length ((account turns).booked ++ b ∷ [])) (2 ^ 64 - 1) → Written G b₀ n₀ ((account turns).booked ++ b ∷ []) list' free' → Shows G A cells (turns ++ t ∷ []) b₀ n₀ (record { lines = set m.lines d fresh_plan_line; count = c }) list' free'
+    pub shown_booked : (t : Turn) → RightTurn G A.goto cells n₀ (account turns) t → (d c : ℕ) (b : BookedLine) {list' : List ℕ} {free' : ℕ} → record { lines = set (account turns).lines d empty_line; booked = (account turns).booked ++ b ∷ [] } ≡ after_turn (account turns) t → c ≡ min (length ((account turns).booked ++ b ∷ [])) (2 ^ 64 - 1) → Written G b₀ n₀ ((account turns).booked ++ b ∷ []) list' free' → Shows G A.goto cells (turns ++ t ∷ []) b₀ n₀ (record { lines = set m.lines d fresh_plan_line; count = c }) list' free'
     shown_booked t r d c b {list'} {free'} e h w =
-        shown_more t r (length-set m.lines d fresh_plan_line ∙ s.eight) (set_holds StandsLine fresh_plan_line fresh_plan_line fresh m.lines s.stands d)
+        shown_more t r (length-set m.lines d fresh_plan_line ∙ s.eight) (set_holds StandsLine fresh_plan_line fresh_plan_line (fresh_behind G A.goto cells) m.lines s.stands d)
         (subst (λ a. Kept G a b₀ n₀ (record { lines = set m.lines d fresh_plan_line; count = c }) list' free') e (record { lines = lines_set d fresh_plan_line; count = h; written = w }))

@@ -13,13 +13,13 @@ abbrev pub KeepsLaw : Held → Model → List ℕ → ℕ → List Turn → Mode
 KeepsLaw blank m list free more m' list' free' = Unit {0}
 KeepsLaw (holding G n A cells) m list free more m' list' free' =
     (turns : List Turn) (b₀ : List ℕ) (n₀ : ℕ)
-    → ∥ Shows G A cells turns b₀ n₀ m list free ∥₁
-    → ∥ Shows G A cells (turns ++ more) b₀ n₀ m' list' free' × Promises G A.goto cells b₀ n₀ (turns ++ more) list' free' ∥₁
+    → ∥ Shows G A.goto cells turns b₀ n₀ m list free ∥₁
+    → ∥ Shows G A.goto cells (turns ++ more) b₀ n₀ m' list' free' × Promises G A.goto cells b₀ n₀ (turns ++ more) list' free' ∥₁
 
 -- Plan and book show that there was no turn, and the three promises hold of none.
 abbrev pub BeginsLaw : Held → Model → List ℕ → ℕ → Type 0
 BeginsLaw blank m list free = Unit {0}
-BeginsLaw (holding G n A cells) m list free = ∥ Shows G A cells [] list free m list free × Promises G A.goto cells list free [] list free ∥₁
+BeginsLaw (holding G n A cells) m list free = ∥ Shows G A.goto cells [] list free m list free × Promises G A.goto cells list free [] list free ∥₁
 
 -- The law between two plans, by how their books are read.
 abbrev pub LawKept : {B : Type 0} → (B → List ℕ) → (B → ℕ) → PlanValue B → List Turn → PlanValue B → Type 0

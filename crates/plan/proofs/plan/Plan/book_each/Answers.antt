@@ -17,6 +17,6 @@ loop-place-preserved g c =
     let low' : l.place < length l.lines = omega (arith, c.loop-place-test.true, l.auto.lines) in
     let next = next_same xs l.lines l.place l.invariant.1 _ low low' in (
       made_then b.list b.free b.grows b.laws _ c.args.self.now l.self c.book_words.new.self l.invariant.0 c.book_words.ensures.made λ ts us p q.
-      lines_more xs l.lines l.place _ low low' next c.book_words.result p q,
+          lines_more xs l.lines l.place _ low low' next c.book_words.result p q,
       rest_same xs l.lines l.place l.invariant.1 _,
     )
