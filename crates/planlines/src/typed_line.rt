@@ -8,6 +8,9 @@ use written::WrittenSheet;
 // No designer has this number.
 const NOBODY: u8 = 9;
 
+// No word has this code.
+const UNKNOWN: u16 = 0;
+
 // The designer that a line names, or else `NOBODY`, and the codes of its words.
 #[derive(Drop)]
 pub(crate) struct TypedLine {
@@ -44,14 +47,14 @@ fn first_designer(tokens: &[&[u8]]) -> u8
     }
 }
 
-// The codes of the words behind the first token, 0 for a spelling that is no word's.
+// The codes of the words behind the first token, `UNKNOWN` for a spelling that is no word's.
 fn codes(alloc: Global, sheet: &WrittenSheet<'_>, tokens: &[&[u8]]) -> Result<Vec<u16>, AllocError>
     ensures { IfOk result (λ v. v.items ≡ map (λ word. code_told sheet.now word.now) (drop 1 tokens.now)) }
 {
     tokens
         .iter()
         .skip(1)
-        .map(|word| sheet.word_code(word).unwrap_or(0))
+        .map(|word| sheet.word_code(word).unwrap_or(UNKNOWN))
         .collect(alloc)
 }
 

@@ -11,9 +11,13 @@ pub(crate) struct Item<'a> {
     pub(crate) dot: u16,
 }
 
-// How many codes a rule has on its right; rule 0 has the start and the end mark.
+// How many codes a rule has on its right.
 pub(crate) fn length_of(sheet: &WrittenSheet<'_>, rule: u16) -> u16 {
-    sheet.length(rule).unwrap_or(2)
+    let Some(length) = sheet.length(rule) else {
+        // Rule 0, which no sheet tells, has the start and the end mark.
+        return 2;
+    };
+    length
 }
 
 impl Item<'_> {
