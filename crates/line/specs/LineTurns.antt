@@ -22,7 +22,8 @@ judged_by (holding G n A cells) l = judge_line G A cells l
 
 -- What the machine leaves at a word; given is how many rules it noted.
 abbrev pub word_turned : Line → Turned → Step PlanLine ℕ
-word_turned l (after k) = done (length k.rules - length l.rules) (record { judged = false; line = k })
+word_turned l (after k) =
+    done (length k.rules - length l.rules) (record { judged = false; line = k })
 word_turned l (halts c) = refused c
 
 -- What the machine leaves at the end mark; given is how many words and rules the judged line has.

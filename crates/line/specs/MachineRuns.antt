@@ -2,7 +2,8 @@
 use Rattle.std.specs.Prelude.{◌≡◌, ℕ, ◌-◌, ◌≤◌, List, ◌∷◌, ◌++◌, length, Ok, Err, Result, Option}
 use Rattle.grammar.specs.Grammar.{Grammar}
 use Rattle.grammar.specs.States.{Automaton}
-use Rattle.grammar.specs.Line.{Line, Ended, stuck, full, shifted, accepted, runs, after_word, after_judging}
+use Rattle.grammar.specs.Line.{Line, Ended, stuck, full, shifted, accepted, runs, after_word}
+use Rattle.grammar.specs.Line.{after_judging}
 use Rattle.grammar.specs.declared.action.Action.{Action}
 use Rattle.line.specs.declared.turn_refusal.TurnRefusal.{TurnRefusal}
 use Rattle.line.specs.TurnRefusals.{told}
@@ -36,7 +37,8 @@ pub record Kept (l k : Arrays) : Type 0 where
   pub count : k.count ≡ l.count
   pub steps : l.steps ≤ k.steps
 
--- An end at which the machine stands on the line k: it would shift to a state, or it accepts, or it halts.
+-- An end at which the machine stands on the line k: it would shift to a state, or it accepts, or it
+-- halts.
 abbrev pub EndsAt : Line → Result Stop TurnRefusal → Line → Ended → Type 0
 EndsAt l (Ok (Shifted t)) k o = (ps : List ℕ) × Noted l k ps × (o ≡ shifted (t ∷ k.states) ps)
 EndsAt l (Ok Accepted) k o = (ps : List ℕ) × Noted l k ps × (o ≡ accepted k.states ps)

@@ -18,6 +18,15 @@ abbrev pub is_judged : Status → Bool
 is_judged Open = false
 is_judged Judged = true
 
--- What a line stands for: the first `depth` states, the top first, the first `count` words and the first `steps` rules.
+-- What a line stands for: the first `depth` states, the top first, the first `count` words and the
+-- first `steps` rules.
 abbrev pub plan_line_of : Arrays → PlanLine
-plan_line_of l = record { judged = is_judged l.status; line = record { states = reverse (take l.depth l.states); words = take l.count l.words; rules = take l.steps l.rules } }
+plan_line_of l =
+    record {
+      judged = is_judged l.status;
+      line = record {
+        states = reverse (take l.depth l.states);
+        words = take l.count l.words;
+        rules = take l.steps l.rules;
+      };
+    }

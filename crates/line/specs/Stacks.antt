@@ -9,8 +9,24 @@ Under σ k None = drop k σ ≡ []
 
 -- The line with a state in the place of the topmost k, and the rule noted.
 abbrev pub replaced : PlanLine → ℕ → ℕ → ℕ → PlanLine
-replaced l k to rule = record { judged = l.judged; line = record { states = to ∷ drop k l.line.states; words = l.line.words; rules = l.line.rules ++ rule ∷ [] } }
+replaced l k to rule =
+    record {
+      judged = l.judged;
+      line = record {
+        states = to ∷ drop k l.line.states;
+        words = l.line.words;
+        rules = l.line.rules ++ rule ∷ [];
+      };
+    }
 
 -- The line with one state more, and the word taken.
 abbrev pub shifted : PlanLine → ℕ → ℕ → PlanLine
-shifted l to word = record { judged = l.judged; line = record { states = to ∷ l.line.states; words = l.line.words ++ word ∷ []; rules = l.line.rules } }
+shifted l to word =
+    record {
+      judged = l.judged;
+      line = record {
+        states = to ∷ l.line.states;
+        words = l.line.words ++ word ∷ [];
+        rules = l.line.rules;
+      };
+    }

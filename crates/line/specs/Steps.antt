@@ -3,7 +3,8 @@ use Rattle.std.specs.Prelude.{ℕ, Ok, Err, Result}
 use Rattle.line.specs.TurnRefusals.{told}
 use Rattle.line.specs.declared.turn_refusal.TurnRefusal.{TurnRefusal}
 
--- It is done, gives something and leaves what comes then; or it is refused with a number, and all is as it was.
+-- It is done, gives something and leaves what comes then; or it is refused with a number, and all
+-- is as it was.
 pub data Step (S B : Type 0) : Type 0 where
   done : B → S → Step S B
   refused : ℕ → Step S B

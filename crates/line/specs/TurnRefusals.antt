@@ -2,7 +2,9 @@
 use Rattle.std.specs.Prelude.{ℕ, []}
 use Rattle.grammar.specs.Refusals.{Told}
 use Rattle.line.specs.declared.turn_refusal.TurnRefusal.{TurnRefusal}
-use Rattle.line.specs.declared.turn_refusal.TurnRefusal.TheVariants.{Blank, NoDesigner, Status, FullLine, NoWord, Reductions, NoAction, FullBook}
+use Rattle.line.specs.declared.turn_refusal.TurnRefusal.TheVariants.{Blank, NoDesigner, Status}
+use Rattle.line.specs.declared.turn_refusal.TurnRefusal.TheVariants.{FullLine, NoWord, Reductions}
+use Rattle.line.specs.declared.turn_refusal.TurnRefusal.TheVariants.{NoAction, FullBook}
 
 -- A refusal that tells its number alone.
 abbrev bare : ℕ → Told

@@ -3,7 +3,8 @@ ghost use Rattle.std.specs.Prelude.{◌≡◌, ◌+◌, ◌≤◌, length};
 
 use super::status::Status;
 
-// `states` has its top at depth - 1. Each state but the first came with a word or a noted rule, so that 1025 places suffice.
+// `states` has its top at depth - 1. Each state but the first came with a word or a noted rule, so
+// that 1025 places suffice.
 // The three arrays with their counts are how the project lays out a line in fixed memory.
 #[derive(Clone, Copy)]
 pub struct Line {

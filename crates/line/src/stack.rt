@@ -9,7 +9,8 @@ use super::line::Line;
 impl Line {
     // The state on top.
     pub(crate) fn top(&self) -> u8
-        ensures { (plan_line_of self.now).line.states ≡ result ∷ drop 1 (plan_line_of self.now).line.states }
+        ensures { (plan_line_of self.now).line.states
+            ≡ result ∷ drop 1 (plan_line_of self.now).line.states }
     {
         self.states[self.depth - 1]
     }

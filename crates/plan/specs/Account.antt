@@ -1,5 +1,6 @@
 -- The account of a list of turns, kept from their arguments and answers alone.
-use Rattle.std.specs.Prelude.{ℕ, Bool, true, false, List, [], ◌∷◌, ◌++◌, replicate, slice_index_or, slice_set}
+use Rattle.std.specs.Prelude.{ℕ, Bool, true, false, List, [], ◌∷◌, ◌++◌, replicate, slice_index_or}
+use Rattle.std.specs.Prelude.{slice_set}
 use Rattle.line.specs.Answers.{given, refused}
 use Rattle.plan.specs.Turns.{Turn, word, judge, book, withdraw, clear}
 
@@ -46,7 +47,8 @@ after_turn a (judge d (refused c)) = a
 after_turn a (book s (given n)) =
     record {
       lines = slice_set a.lines s.designer empty_line;
-      booked = a.booked ++ record { designer = s.designer; words = (line_of a s.designer).words } ∷ [];
+      booked =
+          a.booked ++ record { designer = s.designer; words = (line_of a s.designer).words } ∷ [];
     }
 after_turn a (book s (refused c)) = a
 after_turn a (withdraw s (given u)) = with_line a s.designer empty_line
@@ -59,6 +61,7 @@ abbrev pub after_turns : Account → List Turn → Account
 after_turns a [] = a
 after_turns a (t ∷ ts) = after_turns (after_turn a t) ts
 
--- The account of the turns since the opening: before them there are eight open lines without words, and none is booked.
+-- The account of the turns since the opening: before them there are eight open lines without words,
+-- and none is booked.
 abbrev pub account : List Turn → Account
 account ts = after_turns (record { lines = replicate 8 empty_line; booked = [] }) ts

@@ -24,5 +24,9 @@ IsHolding (holding G n A cells) = Unit {0}
 
 -- Which line it is.
 abbrev pub Lent : Held → List PlanLine → ℕ → Result (MutBor PlanLine) TurnRefusal → Type 0
-Lent h ls d (Ok l) = IsHolding h × (d < 8) × (d < length ls) × (slice_index_or ls d fresh_plan_line ≡ l.now)
+Lent h ls d (Ok l) =
+    IsHolding h
+    × (d < 8)
+    × (d < length ls)
+    × (slice_index_or ls d fresh_plan_line ≡ l.now)
 Lent h ls d (Err e) = NotLent h d e

@@ -12,4 +12,6 @@ pub data LinesAnswered : List LineAsked → List LineAsked → List Turn → Typ
   one_more : {xs ys : List LineAsked} {ts us : List Turn} (x : LineAsked) (r : Result ℕ TurnRefusal)
       → LinesAnswered xs ys ts
       → WholeLine x.designer x.words.now (answer_of r) us
-      → LinesAnswered (xs ++ x ∷ []) (ys ++ record { designer = x.designer; words = x.words; answer = Some r } ∷ []) (ts ++ us)
+      → LinesAnswered (xs ++ x ∷ [])
+      (ys ++ record { designer = x.designer; words = x.words; answer = Some r } ∷ [])
+      (ts ++ us)

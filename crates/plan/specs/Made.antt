@@ -9,7 +9,8 @@ abbrev pub Grown : {B : Type 0} → (B → List ℕ → B → Type 0) → B → 
 Grown grows b c = (numbers : List ℕ) × grows b numbers c
 
 -- A call that makes a list of turns, keeps the law, and leaves a book that grew.
-pub record Made {B : Type 0} (list : B → List ℕ) (free : B → ℕ) (grows : B → List ℕ → B → Type 0) (P : List Turn → Type 0) (p q : PlanValue B) : Type 0 where
+pub record Made {B : Type 0} (list : B → List ℕ) (free : B → ℕ) (grows : B → List ℕ → B → Type 0)
+    (P : List Turn → Type 0) (p q : PlanValue B) : Type 0 where
   pub turns : List Turn
   pub are : P turns
   pub law : LawKept list free p turns q

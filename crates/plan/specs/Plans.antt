@@ -6,6 +6,8 @@ use Rattle.line.specs.declared.turn_refusal.TurnRefusal.{TurnRefusal}
 use Rattle.plan.specs.Turns.{SlipModel, Turn, word, judge, book, withdraw, clear}
 use Rattle.plan.specs.Slips.{unhanded}
 use Rattle.plan.specs.Model.{Model}
+use Rattle.plan.specs.Steps.{BookStepped, book_step}
+use Rattle.tables.specs.Building.{held}
 
 -- A plan by its tables, its book, and its lines with the count of booked ones.
 pub record PlanValue (B : Type 0) : Type 0 where
@@ -17,8 +19,19 @@ pub record PlanValue (B : Type 0) : Type 0 where
 abbrev pub SameBook : {B : Type 0} → PlanValue B → PlanValue B → Type 0
 SameBook p q = (q.tables ≡ p.tables) × (q.book ≡ p.book)
 
--- A booking done adds the step's numbers to the book, in the book's own way to grow; a refused one leaves it the same.
-abbrev pub BookGrows : {C B E : Type 0} → (C → List ℕ → C → Type 0) → C → List ℕ → Result B E → C → Type 0
+-- Booking the judged line of a designer, by what is free in the plan's book.
+abbrev pub booking : {B : Type 0} → (B → ℕ) → PlanValue B → ℕ → BookStepped
+booking free p d = book_step (held p.tables) p.model (free p.book) d
+
+-- A booking done adds the step's numbers to the book, in the book's own way to grow; a refused one
+-- leaves it the same.
+abbrev pub BookGrows : {C B E : Type 0}
+    → (C → List ℕ → C → Type 0)
+    → C
+    → List ℕ
+    → Result B E
+    → C
+    → Type 0
 BookGrows grows b numbers (Ok x) b' = grows b numbers b'
 BookGrows grows b numbers (Err e) b' = b' ≡ b
 

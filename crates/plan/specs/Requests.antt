@@ -1,5 +1,6 @@
 -- Requests with their replies, as turns of a plan.
-use Rattle.std.specs.Prelude.{◌≡◌, ℕ, ◌<◌, ◌≤◌, List, [], ◌∷◌, ◌++◌, length, Option, Some, None, slice_index_or, slice_set}
+use Rattle.std.specs.Prelude.{◌≡◌, ℕ, ◌<◌, ◌≤◌, List, [], ◌∷◌, ◌++◌, length, Option, Some, None}
+use Rattle.std.specs.Prelude.{slice_index_or, slice_set}
 use Rattle.line.specs.Answers.{given, refused}
 use Rattle.line.specs.TurnRefusals.{told}
 use Rattle.line.specs.declared.turn_refusal.TurnRefusal.{TurnRefusal}
@@ -7,7 +8,8 @@ use Rattle.plan.specs.declared.request.Asked.{Asked}
 use Rattle.plan.specs.declared.request.Request.{Request}
 use Rattle.plan.specs.declared.request.Request.TheVariants.{Word, Judge, Book, Withdraw, Clear}
 use Rattle.plan.specs.declared.request.Reply.{Reply}
-use Rattle.plan.specs.declared.request.Reply.TheVariants.{Taken, Judged, Booked, Withdrawn, Cleared, Refused, NoSlot, FullSlot, EmptySlot}
+use Rattle.plan.specs.declared.request.Reply.TheVariants.{Taken, Judged, Booked, Withdrawn, Cleared}
+use Rattle.plan.specs.declared.request.Reply.TheVariants.{Refused, NoSlot, FullSlot, EmptySlot}
 use Rattle.plan.specs.Turns.{SlipModel, Turn, word, judge, book, withdraw, clear}
 
 -- What the slots hold.
@@ -30,7 +32,9 @@ pub data Replied : Request → Reply → Slots → Slots → List Turn → Type 
   not_judged : {s : Slots} (d i : ℕ) (e : TurnRefusal) → Has s i None
       → Replied (Judge d i) (Refused e) s s (judge d (refused (told e).number) ∷ [])
   judged_nowhere : {s : Slots} (d i : ℕ) → length s ≤ i → Replied (Judge d i) NoSlot s s []
-  slot_full : {s : Slots} (d i : ℕ) (x : SlipModel) → Has s i (Some x) → Replied (Judge d i) FullSlot s s []
+  slot_full : {s : Slots} (d i : ℕ) (x : SlipModel)
+      → Has s i (Some x)
+      → Replied (Judge d i) FullSlot s s []
   booked : {s : Slots} (i n : ℕ) (x : SlipModel) → Has s i (Some x)
       → Replied (Book i) (Booked n) s (slice_set s i None) (book x (given n) ∷ [])
   not_booked : {s : Slots} (i : ℕ) (x : SlipModel) (e : TurnRefusal) → Has s i (Some x)
@@ -47,10 +51,12 @@ pub data Replied : Request → Reply → Slots → Slots → List Turn → Type 
   not_cleared : {s : Slots} (d : ℕ) (e : TurnRefusal)
       → Replied (Clear d) (Refused e) s s (clear d (refused (told e).number) ∷ [])
 
--- The requests, in order, each with its reply behind it; the slots before and after them all, and the turns that they made.
+-- The requests, in order, each with its reply behind it; the slots before and after them all, and
+-- the turns that they made.
 pub data Answered : List Asked → List Asked → Slots → Slots → List Turn → Type 0 where
   none : {s : Slots} → Answered [] [] s s []
   one_more : {xs ys : List Asked} {s s' s'' : Slots} {ts us : List Turn} (x : Asked) (r : Reply)
       → Answered xs ys s s' ts
       → Replied x.request r s' s'' us
-      → Answered (xs ++ x ∷ []) (ys ++ record { request = x.request; reply = Some r } ∷ []) s s'' (ts ++ us)
+      → Answered (xs ++ x ∷ []) (ys ++ record { request = x.request; reply = Some r } ∷ []) s s''
+      (ts ++ us)

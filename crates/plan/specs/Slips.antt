@@ -4,7 +4,10 @@ use Rattle.line.specs.declared.turn_refusal.TurnRefusal.{TurnRefusal}
 use Rattle.plan.specs.Turns.{SlipModel}
 
 -- The answer of a call with the slip that it took, if the call was refused.
-abbrev pub handed : {B : Type 0} → SlipModel → Result B TurnRefusal → Result B (TurnRefusal × SlipModel)
+abbrev pub handed : {B : Type 0}
+    → SlipModel
+    → Result B TurnRefusal
+    → Result B (TurnRefusal × SlipModel)
 handed s (Ok x) = Ok x
 handed s (Err e) = Err (e, s)
 

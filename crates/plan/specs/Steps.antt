@@ -22,7 +22,8 @@ abbrev pub placed : {B : Type 0} → Model → ℕ → Step PlanLine B → Stepp
 placed m d (done x l) = record { answer = given x; next = with_plan_line m d l }
 placed m d (not_done c) = refusing m c
 
--- A call that is a turn of a designer's line: 8 where the tables are blank, 9 where the designer is above 7.
+-- A call that is a turn of a designer's line: 8 where the tables are blank, 9 where the designer is
+-- above 7.
 abbrev pub on_line : {B : Type 0} → Held → Model → ℕ → (PlanLine → Step PlanLine B) → Stepped B
 on_line blank m d turn = refusing m 8
 on_line (holding G n A cells) m d turn =
@@ -53,10 +54,13 @@ clear_step h m d = on_line h m d (freshen_on false)
 abbrev pub entry_on : ℕ → PlanLine → List ℕ
 entry_on d l = entry d l.line.words l.line.rules
 
--- A judged line that gives its entry to the book, where so many numbers are free, and is then fresh.
+-- A judged line that gives its entry to the book, where so many numbers are free, and is then
+-- fresh.
 abbrev pub book_on : ℕ → ℕ → PlanLine → Step PlanLine (List ℕ)
 book_on free d l =
-    asking true l (cond (nat_lt free (length (entry_on d l))) (not_done 15) (done (entry_on d l) fresh_plan_line))
+    let numbers = entry_on d l in
+    asking true l
+    (cond (nat_lt free (length numbers)) (not_done 15) (done numbers fresh_plan_line))
 
 -- What booking answers, the plan that it leaves, and the numbers that it adds to the book.
 pub record BookStepped : Type 0 where

@@ -5,7 +5,8 @@ use Rattle.grammar.specs.Machine.{Goes, Few}
 use Rattle.grammar.specs.declared.action.Action.{Action}
 
 module _ (G : Grammar) (goto : ℕ → ℕ → Option ℕ) (cells : ℕ → ℕ → Option Action) where
-  -- From a stack of states and an input to another stack and what is left of the input, noting rules.
+  -- From a stack of states and an input to another stack and what is left of the input, noting
+  -- rules.
   abbrev pub Run : List ℕ → List ℕ → List ℕ → List ℕ → List ℕ → Type 0
   Run σ i ps τ j = Goes G goto (λ s w a. cells s w ≡ Some a) σ i ps τ j
 

@@ -8,7 +8,9 @@ pub record SlipModel : Type 0 where
   pub words : ℕ
   pub steps : ℕ
 
--- A word brought to a designer's line, answered by the number of reductions; a designer's line judged, answered by a slip; a slip booked, answered by the count of booked lines; a slip withdrawn; a designer's line cleared.
+-- A word brought to a designer's line, answered by the number of reductions; a designer's line
+-- judged, answered by a slip; a slip booked, answered by the count of booked lines; a slip
+-- withdrawn; a designer's line cleared.
 pub data Turn : Type 0 where
   word : ℕ → ℕ → Answer ℕ → Turn
   judge : ℕ → Answer SlipModel → Turn

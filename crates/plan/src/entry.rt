@@ -1,4 +1,5 @@
-// The entry of a judged line: the designer, the number of words, the number of rules, the words and the rules.
+// The entry of a judged line: the designer, the number of words, the number of rules, the words and
+// the rules.
 ghost use Rattle.bounded.specs.BoundedList.{listed};
 ghost use Rattle.plan.specs.Entries.{entry};
 ghost use Rattle.std.specs.Prelude.{◌≡◌, ◌+◌, ◌++◌, ◌≤◌, length};

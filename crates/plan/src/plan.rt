@@ -2,9 +2,10 @@
 ghost use Rattle.plan.specs.Bookings.{LineBooked, Waiting};
 ghost use Rattle.plan.specs.LawKept.{LawBegun, LawKept};
 ghost use Rattle.plan.specs.Model.{opened_model};
-ghost use Rattle.plan.specs.Plans.{BookGrows, SameBook, book_made, clear_made, judge_made, withdraw_made, word_made};
+ghost use Rattle.plan.specs.Plans.{BookGrows, SameBook, book_made, booking, clear_made, judge_made};
+ghost use Rattle.plan.specs.Plans.{withdraw_made, word_made};
 ghost use Rattle.plan.specs.Slips.{HandedBack, unhanded};
-ghost use Rattle.plan.specs.Steps.{book_step, clear_step, judge_step, on_line, withdraw_step, word_step};
+ghost use Rattle.plan.specs.Steps.{clear_step, judge_step, on_line, withdraw_step, word_step};
 ghost use Rattle.line.specs.Answers.{answer_of};
 ghost use Rattle.line.specs.LineTurns.{freshen_on};
 ghost use Rattle.line.specs.PlanLines.{is_judged};
@@ -33,7 +34,12 @@ impl<B> Model for Plan<B> {
 
     ghost Value = { PlanValue B };
 
-    ghost view = { λ p. record { tables = p.tables; book = p.book; model = record { lines = p.lines; count = p.booked } } };
+    ghost view = { λ p.
+        record {
+          tables = p.tables;
+          book = p.book;
+          model = record { lines = p.lines; count = p.booked };
+        } };
 }
 
 impl<B: Book> Plan<B> {
@@ -67,7 +73,8 @@ impl<B: Book> Plan<B> {
 
     // Brings a word to a designer's line, as a step of the plan.
     fn bring(&mut self, designer: u8, word: u16) -> Result<u16, TurnRefusal>
-        ensures step { word_step (held self.old.tables) self.old.model designer word ≡ record { answer = answer_of result; next = self.new.model } }
+        ensures step { word_step (held self.old.tables) self.old.model designer word
+            ≡ record { answer = answer_of result; next = self.new.model } }
         ensures kept { SameBook self.old self.new }
     {
         let seat = self.lines.lend(&self.tables, designer)?;
@@ -77,7 +84,8 @@ impl<B: Book> Plan<B> {
     // Brings a word to a designer's line; a word taken is answered by the number of reductions.
     #[tactic(auto, using(crate::proofs::LawKept::word_law))]
     pub fn word(&mut self, designer: u8, word: u16) -> Result<u16, TurnRefusal>
-        ensures step { word_step (held self.old.tables) self.old.model designer word ≡ record { answer = answer_of result; next = self.new.model } }
+        ensures step { word_step (held self.old.tables) self.old.model designer word
+            ≡ record { answer = answer_of result; next = self.new.model } }
         ensures kept { SameBook self.old self.new }
         ensures law { LawKept B.list B.free self.old (word_made designer word result) self.new }
     {
@@ -86,7 +94,8 @@ impl<B: Book> Plan<B> {
 
     // Judges a designer's line, and gives out its slip, which then waits.
     pub(crate) fn judge_line(&mut self, designer: u8) -> Result<Slip, TurnRefusal>
-        ensures step { judge_step (held self.old.tables) self.old.model designer ≡ record { answer = answer_of result; next = self.new.model } }
+        ensures step { judge_step (held self.old.tables) self.old.model designer
+            ≡ record { answer = answer_of result; next = self.new.model } }
         ensures kept { SameBook self.old self.new }
         ensures waiting { Waiting self.new result }
     {
@@ -98,7 +107,8 @@ impl<B: Book> Plan<B> {
     // Judges a designer's line; one found good gives out a slip.
     #[tactic(auto, using(crate::proofs::LawKept::judge_law))]
     pub fn judge(&mut self, designer: u8) -> Result<Slip, TurnRefusal>
-        ensures step { judge_step (held self.old.tables) self.old.model designer ≡ record { answer = answer_of result; next = self.new.model } }
+        ensures step { judge_step (held self.old.tables) self.old.model designer
+            ≡ record { answer = answer_of result; next = self.new.model } }
         ensures kept { SameBook self.old self.new }
         ensures law { LawKept B.list B.free self.old (judge_made designer result) self.new }
     {
@@ -116,11 +126,14 @@ impl<B: Book> Plan<B> {
         Ok(self.booked)
     }
 
-    // Books a judged line, which is then fresh, and answers how many lines were booked since the opening; refused, the slip is handed back.
+    // Books a judged line, which is then fresh, and answers how many lines were booked since the
+    // opening; refused, the slip is handed back.
     #[tactic(auto, using(crate::proofs::LawKept::book_law))]
     pub fn book(&mut self, slip: Slip) -> Result<u64, (TurnRefusal, Slip)>
-        ensures step { let step = book_step (held self.old.tables) self.old.model (B.free self.old.book) slip.designer in (step.answer ≡ answer_of (unhanded result)) × (step.next ≡ self.new.model) }
-        ensures written { BookGrows B.grows self.old.book (book_step (held self.old.tables) self.old.model (B.free self.old.book) slip.designer).written result self.new.book }
+        ensures step { let step = booking B.free self.old slip.designer in
+            (step.answer ≡ answer_of (unhanded result)) × (step.next ≡ self.new.model) }
+        ensures written { let step = booking B.free self.old slip.designer in
+            BookGrows B.grows self.old.book step.written result self.new.book }
         ensures back { HandedBack slip result }
         ensures kept { self.new.tables ≡ self.old.tables }
         ensures law { LawKept B.list B.free self.old (book_made slip result) self.new }
@@ -131,7 +144,9 @@ impl<B: Book> Plan<B> {
 
     // Makes a designer's line of this status fresh.
     fn freshen(&mut self, designer: u8, status: Status) -> Result<(), TurnRefusal>
-        ensures step { on_line (held self.old.tables) self.old.model designer (freshen_on (is_judged status)) ≡ record { answer = answer_of result; next = self.new.model } }
+        ensures step { on_line (held self.old.tables) self.old.model designer
+            (freshen_on (is_judged status))
+            ≡ record { answer = answer_of result; next = self.new.model } }
         ensures kept { SameBook self.old self.new }
     {
         let seat = self.lines.lend(&self.tables, designer)?;
@@ -141,7 +156,8 @@ impl<B: Book> Plan<B> {
     // Withdraws a judged line, which is then fresh; refused, the slip is handed back.
     #[tactic(auto, using(crate::proofs::LawKept::withdraw_law))]
     pub fn withdraw(&mut self, slip: Slip) -> Result<(), (TurnRefusal, Slip)>
-        ensures step { withdraw_step (held self.old.tables) self.old.model slip.designer ≡ record { answer = answer_of (unhanded result); next = self.new.model } }
+        ensures step { withdraw_step (held self.old.tables) self.old.model slip.designer
+            ≡ record { answer = answer_of (unhanded result); next = self.new.model } }
         ensures back { HandedBack slip result }
         ensures kept { SameBook self.old self.new }
         ensures law { LawKept B.list B.free self.old (withdraw_made slip result) self.new }
@@ -154,7 +170,8 @@ impl<B: Book> Plan<B> {
     // Clears an open line, which is then fresh.
     #[tactic(auto, using(crate::proofs::LawKept::clear_law))]
     pub fn clear(&mut self, designer: u8) -> Result<(), TurnRefusal>
-        ensures step { clear_step (held self.old.tables) self.old.model designer ≡ record { answer = answer_of result; next = self.new.model } }
+        ensures step { clear_step (held self.old.tables) self.old.model designer
+            ≡ record { answer = answer_of result; next = self.new.model } }
         ensures kept { SameBook self.old self.new }
         ensures law { LawKept B.list B.free self.old (clear_made designer result) self.new }
     {

@@ -1,7 +1,8 @@
 // What is asked of a plan in a list, and what is answered.
 use line::TurnRefusal;
 
-// A request. Slips lie in slots: judging puts one into a slot, booking and withdrawing take one from a slot.
+// A request. Slips lie in slots: judging puts one into a slot, booking and withdrawing take one
+// from a slot.
 #[derive(Clone, Copy, PartialEq, Eq, Debug)]
 pub enum Request {
     Word { designer: u8, word: u16 },

@@ -14,7 +14,8 @@ use tables::{BuildRefusal, Tables};
 impl<B: Book> Plan<B> {
     // Judges a line, and keeps its slip in an empty slot.
     fn judge_into(&mut self, designer: u8, slot: usize, slips: &mut [Option<Slip>]) -> Reply
-        ensures { Made B.list B.free B.grows (Replied (Request.Judge designer slot) result slips.old slips.new) self.old self.new }
+        ensures { Made B.list B.free B.grows
+            (Replied (Request.Judge designer slot) result slips.old slips.new) self.old self.new }
     {
         if slot >= slips.len() {
             return Reply::NoSlot;
@@ -36,7 +37,8 @@ impl<B: Book> Plan<B> {
 
     // Books the slip of a slot, which lies there again where that is refused.
     fn book_from(&mut self, slot: usize, slips: &mut [Option<Slip>]) -> Reply
-        ensures { Made B.list B.free B.grows (Replied (Request.Book slot) result slips.old slips.new) self.old self.new }
+        ensures { Made B.list B.free B.grows
+            (Replied (Request.Book slot) result slips.old slips.new) self.old self.new }
     {
         if slot >= slips.len() {
             return Reply::NoSlot;
@@ -58,7 +60,8 @@ impl<B: Book> Plan<B> {
 
     // Withdraws the slip of a slot, which lies there again where that is refused.
     fn withdraw_from(&mut self, slot: usize, slips: &mut [Option<Slip>]) -> Reply
-        ensures { Made B.list B.free B.grows (Replied (Request.Withdraw slot) result slips.old slips.new) self.old self.new }
+        ensures { Made B.list B.free B.grows
+            (Replied (Request.Withdraw slot) result slips.old slips.new) self.old self.new }
     {
         if slot >= slips.len() {
             return Reply::NoSlot;
@@ -80,7 +83,8 @@ impl<B: Book> Plan<B> {
 
     // One request: at most one turn.
     fn reply(&mut self, request: Request, slips: &mut [Option<Slip>]) -> Reply
-        ensures { Made B.list B.free B.grows (Replied request result slips.old slips.new) self.old self.new }
+        ensures { Made B.list B.free B.grows (Replied request result slips.old slips.new) self.old
+            self.new }
     {
         match request {
             Request::Word { designer, word } => match self.word(designer, word) {
@@ -99,7 +103,8 @@ impl<B: Book> Plan<B> {
 
     // The requests, one behind another.
     fn reply_all(&mut self, asked: &mut [Asked], slips: &mut [Option<Slip>])
-        ensures { Made B.list B.free B.grows (Answered asked.old asked.new slips.old slips.new) self.old self.new }
+        ensures { Made B.list B.free B.grows (Answered asked.old asked.new slips.old slips.new)
+            self.old self.new }
     {
         for place in 0..asked.len() {
             asked[place].reply = Some(self.reply(asked[place].request, slips));
@@ -107,8 +112,8 @@ impl<B: Book> Plan<B> {
     }
 }
 
-// Opens a plan by a sheet over a book, makes the requests in order, and writes each reply beside its request.
-// Slips lie in the slots. Done, the book comes back as the turns left it.
+// Opens a plan by a sheet over a book, makes the requests in order, and writes each reply beside
+// its request. Slips lie in the slots. Done, the book comes back as the turns left it.
 // A sheet that has no tables is refused as building it is, with the book, and all is as it was.
 pub fn run<S: RuleSheet, B: Book>(
     sheet: &S,
@@ -116,7 +121,9 @@ pub fn run<S: RuleSheet, B: Book>(
     asked: &mut [Asked],
     slips: &mut [Option<Slip>],
 ) -> Result<B, (BuildRefusal, B)>
-    ensures { Ran (S.RuleSheet.meaning sheet.now) B.list B.free B.grows (Answered asked.old asked.new slips.old slips.new) ((asked.new ≡ asked.old) × (slips.new ≡ slips.old)) book result }
+    ensures { Ran (S.RuleSheet.meaning sheet.now) B.list B.free B.grows
+        (Answered asked.old asked.new slips.old slips.new)
+        ((asked.new ≡ asked.old) × (slips.new ≡ slips.old)) book result }
 {
     let mut tables = Tables::new();
     if let Err(refusal) = tables.build(sheet) {

@@ -5,7 +5,8 @@ ghost use Rattle.std.specs.Prelude.{◌≡◌};
 use line::TurnRefusal;
 use std::marker::Model;
 
-// A judged line's designer, and how many words and derivation steps the line has. The type is no Drop, so a slip cannot be let go.
+// A judged line's designer, and how many words and derivation steps the line has. The type is no
+// Drop, so a slip cannot be let go.
 pub struct Slip {
     designer: u8,
     words: u16,

@@ -17,8 +17,10 @@ use line::TurnRefusal;
 impl<B: Book> Plan<B> {
     // Brings the words to the first refusal, and judges the line if there is none.
     fn judge_words(&mut self, designer: u8, words: &[u16]) -> Result<Slip, TurnRefusal>
-        ensures step { judging_call (held self.old.tables) self.old.model designer words.now ≡ record { answer = answer_of result; next = self.new.model } }
-        ensures made { Made B.list B.free B.grows (Judging designer words.now (answer_of result)) self.old self.new }
+        ensures step { judging_call (held self.old.tables) self.old.model designer words.now
+            ≡ record { answer = answer_of result; next = self.new.model } }
+        ensures made { Made B.list B.free B.grows (Judging designer words.now (answer_of result))
+            self.old self.new }
         ensures waiting { Waiting self.new result }
         ensures kept { SameBook self.old self.new }
     {
@@ -31,7 +33,8 @@ impl<B: Book> Plan<B> {
     // Withdraws the line of a slip that waits: this is never refused, so that no slip is lost.
     fn take_back(&mut self, slip: Slip)
         requires { SlipWaits (held self.old.tables) self.old.model slip }
-        ensures step { (withdraw_step (held self.old.tables) self.old.model slip.designer).next ≡ self.new.model }
+        ensures step { (withdraw_step (held self.old.tables) self.old.model slip.designer).next
+            ≡ self.new.model }
         ensures made { Made B.list B.free B.grows (Withdrawing slip) self.old self.new }
         ensures kept { SameBook self.old self.new }
     {
@@ -43,12 +46,18 @@ impl<B: Book> Plan<B> {
     // Books the line of a slip that waits, or withdraws it where booking is refused.
     fn settle(&mut self, slip: Slip) -> Result<u64, TurnRefusal>
         requires { SlipWaits (held self.old.tables) self.old.model slip }
-        ensures step { let step = settling_call (held self.old.tables) self.old.model (B.free self.old.book) slip in (step.answer ≡ answer_of result) × (step.next ≡ self.new.model) }
-        ensures written { BookGrows B.grows self.old.book (settling_call (held self.old.tables) self.old.model (B.free self.old.book) slip).written result self.new.book }
-        ensures made { Made B.list B.free B.grows (SettlingSlip slip (answer_of result)) self.old self.new }
+        ensures step { let step = settling_call (held self.old.tables) self.old.model
+            (B.free self.old.book) slip in (step.answer ≡ answer_of result)
+            × (step.next ≡ self.new.model) }
+        ensures written { BookGrows B.grows self.old.book
+            (settling_call (held self.old.tables) self.old.model (B.free self.old.book) slip).written
+            result self.new.book }
+        ensures made { Made B.list B.free B.grows (SettlingSlip slip (answer_of result)) self.old
+            self.new }
         ensures kept { self.new.tables ≡ self.old.tables }
     {
-        // The refused arm takes the plan and the slip, which a closure for `map_err` would have to borrow: no plainer.
+        // The refused arm takes the plan and the slip, which a closure for `map_err` would have to
+        // borrow: no plainer.
         match self.book(slip) {
             Ok(count) => Ok(count),
             Err((refusal, slip)) => {
@@ -58,11 +67,16 @@ impl<B: Book> Plan<B> {
         }
     }
 
-    // Brings the words to a designer's line, judges it and books it, to the first refusal; a judged line is then withdrawn, and an open one cleared.
+    // Brings the words to a designer's line, judges it and books it, to the first refusal; a judged
+    // line is then withdrawn, and an open one cleared.
     pub fn book_words(&mut self, designer: u8, words: &[u16]) -> Result<u64, TurnRefusal>
-        ensures step { let step = line_call B.free self.old designer words.now in (step.answer ≡ answer_of result) × (step.next ≡ self.new.model) }
-        ensures written { BookGrows B.grows self.old.book (line_call B.free self.old designer words.now).written result self.new.book }
-        ensures made { Made B.list B.free B.grows (WholeLine designer words.now (answer_of result)) self.old self.new }
+        ensures step { let step = line_call B.free self.old designer words.now in
+            (step.answer ≡ answer_of result)
+            × (step.next ≡ self.new.model) }
+        ensures written { BookGrows B.grows self.old.book
+            (line_call B.free self.old designer words.now).written result self.new.book }
+        ensures made { Made B.list B.free B.grows (WholeLine designer words.now (answer_of result))
+            self.old self.new }
         ensures kept { self.new.tables ≡ self.old.tables }
     {
         // Both arms take the plan, which closures for `and_then` and `map_err` could not share.

@@ -30,16 +30,17 @@ impl<B: Book> Plan<B> {
     }
 }
 
-// Opens a plan by a sheet over a book, takes the lines in order, and writes each answer beside its line:
-// its words are brought, it is judged and booked, to the first refusal; a judged line is then withdrawn, and an open one cleared.
-// Done, the book comes back as the turns left it.
+// Opens a plan by a sheet over a book, takes the lines in order, and writes each answer beside its
+// line: its words are brought, it is judged and booked, to the first refusal; a judged line is then
+// withdrawn, and an open one cleared. Done, the book comes back as the turns left it.
 // A sheet that has no tables is refused as building it is, with the book, and all is as it was.
 pub fn book_all<S: RuleSheet, B: Book>(
     sheet: &S,
     book: B,
     lines: &mut [LineAsked<'_>],
 ) -> Result<B, (BuildRefusal, B)>
-    ensures { Ran (S.RuleSheet.meaning sheet.now) B.list B.free B.grows (LinesAnswered lines.old lines.new) (lines.new ≡ lines.old) book result }
+    ensures { Ran (S.RuleSheet.meaning sheet.now) B.list B.free B.grows
+        (LinesAnswered lines.old lines.new) (lines.new ≡ lines.old) book result }
 {
     let mut tables = Tables::new();
     if let Err(refusal) = tables.build(sheet) {
