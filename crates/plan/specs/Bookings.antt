@@ -37,8 +37,7 @@ module _ {B : Type 0} (list : B → List ℕ) (free : B → ℕ) (grows : B → 
   abbrev pub LineBooked : PlanValue B → ℕ → Result ℕ TurnRefusal → PlanValue B → Type 0
   LineBooked p d (Ok n) q =
       (booking free p d ≡ record {
-        answer =
-            given n;
+        answer = given n;
         next = q.model;
         written = entry_on d (plan_line p.model d);
       })

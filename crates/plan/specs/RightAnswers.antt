@@ -123,7 +123,8 @@ module _ (G : Grammar) (n₀ : ℕ) (a : Account) where
     pub cause : (c : ℕ) → x ≡ refused c → BookCause d list c
 
 -- A call that makes a line fresh is done exactly when the line is judged or open as wanted.
-pub record RightFresh (judged : Bool) (designer : ℕ) (l : AccountLine) (x : Answer (Unit {0})) : Type 0 where
+pub record RightFresh (judged : Bool) (designer : ℕ) (l : AccountLine)
+    (x : Answer (Unit {0})) : Type 0 where
   pub done : IsGiven x ↔ Ready judged designer l
   pub cause : (c : ℕ) → x ≡ refused c → Unready judged designer l c
 

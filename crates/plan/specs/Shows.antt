@@ -32,7 +32,8 @@ module _ (G : Grammar) (goto : ℕ → ℕ → Option ℕ) (cells : ℕ → ℕ 
 
   -- The plan's lines and count are those of the account of the turns, and the law holds of the
   -- turns and the book; b₀ is the book's list and n₀ its free count at the opening.
-  pub record Shows (turns : List Turn) (b₀ : List ℕ) (n₀ : ℕ) (m : Model) (list : List ℕ) (free : ℕ) : Type 0 where
+  pub record Shows (turns : List Turn) (b₀ : List ℕ) (n₀ : ℕ) (m : Model)
+      (list : List ℕ) (free : ℕ) : Type 0 where
     pub eight : length m.lines ≡ 8
     pub lines : (account turns).lines ≡ map account_line m.lines
     pub stands : (d : ℕ) → Stands (plan_line m d).judged (plan_line m d).line

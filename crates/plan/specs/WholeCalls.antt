@@ -45,6 +45,9 @@ abbrev pub whole_call : Held → Model → ℕ → ℕ → List ℕ → BookStep
 whole_call h m free d ws =
     behind_judging h free d (judging_call h m d ws).answer (judging_call h m d ws).next
 
--- A whole line, by what is free in the plan's book.
+-- A slip settled, and a whole line, by what is free in the plan's book.
+abbrev pub settling : {B : Type 0} → (B → ℕ) → PlanValue B → SlipModel → BookStepped
+settling free p s = settling_call (held p.tables) p.model (free p.book) s
+
 abbrev pub line_call : {B : Type 0} → (B → ℕ) → PlanValue B → ℕ → List ℕ → BookStepped
 line_call free p d ws = whole_call (held p.tables) p.model (free p.book) d ws

@@ -54,7 +54,8 @@ impl Seat {
 
     // Puts the entry of a judged line into the book, whole or not at all; the line is then fresh.
     pub(crate) fn book<B: Book>(&mut self, designer: u8, book: &mut B) -> Result<(), TurnRefusal>
-        ensures { EntryOn B.list B.free B.grows designer self.old book.old result self.new book.new }
+        ensures { EntryOn B.list B.free B.grows designer self.old book.old result
+            self.new book.new }
     {
         self.line.expect(Status::Judged)?;
         let entry = entry_of(designer, self.line.words(), self.line.rules());

@@ -3,7 +3,7 @@ ghost use Rattle.line.specs.Answers.{answer_of};
 ghost use Rattle.plan.specs.Bookings.{SlipWaits, Waiting};
 ghost use Rattle.plan.specs.Plans.{BookGrows, SameBook};
 ghost use Rattle.plan.specs.Steps.{withdraw_step};
-ghost use Rattle.plan.specs.WholeCalls.{judging_call, line_call, settling_call};
+ghost use Rattle.plan.specs.WholeCalls.{judging_call, line_call, settling};
 ghost use Rattle.plan.specs.Made.{Made};
 ghost use Rattle.plan.specs.WholeLines.{Judging, SettlingSlip, WholeLine, Withdrawing};
 ghost use Rattle.tables.specs.Building.{held};
@@ -46,12 +46,10 @@ impl<B: Book> Plan<B> {
     // Books the line of a slip that waits, or withdraws it where booking is refused.
     fn settle(&mut self, slip: Slip) -> Result<u64, TurnRefusal>
         requires { SlipWaits (held self.old.tables) self.old.model slip }
-        ensures step { let step = settling_call (held self.old.tables) self.old.model
-            (B.free self.old.book) slip in (step.answer ≡ answer_of result)
-            × (step.next ≡ self.new.model) }
-        ensures written { BookGrows B.grows self.old.book
-            (settling_call (held self.old.tables) self.old.model (B.free self.old.book) slip).written
-            result self.new.book }
+        ensures step { let step = settling B.free self.old slip in
+            (step.answer ≡ answer_of result) × (step.next ≡ self.new.model) }
+        ensures written { let step = settling B.free self.old slip in
+            BookGrows B.grows self.old.book step.written result self.new.book }
         ensures made { Made B.list B.free B.grows (SettlingSlip slip (answer_of result)) self.old
             self.new }
         ensures kept { self.new.tables ≡ self.old.tables }
