@@ -21,13 +21,6 @@ impl Line {
         }
     }
 
-    // Whether the line is judged.
-    pub fn is_judged(&self) -> bool
-        ensures { result ≡ (plan_line_of self.now).judged }
-    {
-        matches!(self.status, Status::Judged)
-    }
-
     // Whether the line is open or judged.
     pub fn status(&self) -> Status
         ensures { is_judged result ≡ (plan_line_of self.now).judged }
