@@ -12,7 +12,7 @@ use Rattle.plan.specs.Law.{Law, Promises}
 use Rattle.plan.specs.Model.{Model}
 use Rattle.plan.specs.Plans.{PlanValue}
 use Rattle.plan.specs.LawKept.{KeepsLaw, BeginsLaw, LawKept, LawBegun}
-use Rattle.plan.specs.Runs.{Kept}
+use Rattle.plan.specs.Runs.{Promised}
 
 module _ (G : Grammar) (n : ℕ) (A : Automaton) (cells : ℕ → ℕ → Option Action) (m : Model) (list : List ℕ) (free : ℕ) (ts : List Turn) (m' : Model) (list' : List ℕ) (free' : ℕ) where
   -- A plan that begins the law and keeps it.
@@ -22,7 +22,7 @@ module _ (G : Grammar) (n : ℕ) (A : Automaton) (cells : ℕ → ℕ → Option
       (λ begun keeps. ∥∥₁_map (keeps [] list free (∥∥₁_map begun (λ x. x.0))) (λ x. (x.0.law, x.1)))
 
 module _ {B : Type 0} (list : B → List ℕ) (free : B → ℕ) where
-  pub run_kept : (G : Grammar) (b : B) (t : Tables) (p q : PlanValue B) (ts : List Turn) → BuiltFrom G (Ok tt) (held t) → p.tables ≡ t → p.book ≡ b → LawBegun list free p → LawKept list free p ts q → Kept G (list b) (free b) ts (list q.book) (free q.book)
+  pub run_kept : (G : Grammar) (b : B) (t : Tables) (p q : PlanValue B) (ts : List Turn) → BuiltFrom G (Ok tt) (held t) → p.tables ≡ t → p.book ≡ b → LawBegun list free p → LawKept list free p ts q → Promised G (list b) (free b) ts (list q.book) (free q.book)
   run_kept G b t p q ts built same same_book begun keeps =
       ∥∥₁_elim built ∥∥₁_prop λ x.
       let n = x.0 in let A = x.1 in let cells = x.2 in

@@ -13,8 +13,8 @@ use Rattle.plan.specs.Made.{Grown}
 -- Building the grammar comes to tables, and by their machine the law and the three promises hold of
 -- the turns, from the book's list and free count before them to those behind them; b₀ is the book's
 -- list and n₀ its free count at first.
-abbrev pub Kept : Grammar → List ℕ → ℕ → List Turn → List ℕ → ℕ → Type 0
-Kept G b₀ n₀ turns list free =
+abbrev pub Promised : Grammar → List ℕ → ℕ → List Turn → List ℕ → ℕ → Type 0
+Promised G b₀ n₀ turns list free =
     ∥ ((n : ℕ) × (A : Automaton) × (cells : ℕ → ℕ → Option Action)
     × Outcome G (built n A cells)
     × Law G A.goto cells b₀ n₀ turns list free
@@ -36,6 +36,6 @@ abbrev pub Ran : {B : Type 0}
 Ran G list free grows Are Same b (Ok c) =
     (turns : List Turn)
     × Are turns
-    × Kept G (list b) (free b) turns (list c) (free c)
+    × Promised G (list b) (free b) turns (list c) (free c)
     × Grown grows b c
 Ran G list free grows Are Same b (Err e) = Outcome G (not_built (told e.0)) × (e.1 ≡ b) × Same
