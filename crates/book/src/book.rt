@@ -9,7 +9,8 @@ pub trait Book {
     // How many more it takes.
     ghost free: { Self → ℕ };
 
-    // The last is the first with these numbers added at the end, in the same memory, and all else in it as it was.
+    // The last is the first with these numbers added at its end. Each kind of book says here what
+    // else stays as it was: of a page, the memory that it lies in, and all else in that.
     ghost grows: { Self → List ℕ → Self → Type 0 };
 
     // What holds of every book.

@@ -1,3 +1,4 @@
 pub mod StackArrays
 pub mod HeldStates
 pub mod MachineOnLines
+pub mod Asked

@@ -17,7 +17,7 @@ use Rattle.line.specs.declared.turn_refusal.TurnRefusal.TheVariants.{NoAction}
 use Rattle.line.specs.declared.line.Line.{Line as Arrays}
 use Rattle.line.specs.declared.machine.Stop.TheVariants.{Shifted, Accepted}
 use Rattle.line.specs.Reductions.{landed, uncovered, by_left, by_length, reduction}
-use Rattle.line.specs.MachineRuns.{ends, Halted, Noted, Kept, Ran}
+use Rattle.line.specs.MachineRuns.{ends, Halted, Noted, StatesKept, MachineRan}
 use Rattle.line.proofs.HeldStates.{RuleIn}
 
 -- After a reduction the machine goes on where it lands, or halts where it was refused.
@@ -134,7 +134,7 @@ module _ (h : Held) (l : Line) (r : ℕ) where
   pub reduction_longer : (k : Line) → reduction h l r ≡ after k → length k.rules ≡ length l.rules + 1
   reduction_longer k e = ap length (reduction_notes k e).rules ∙ length_push l.rules r
 
-pub kept_on : {l k m : Arrays} → Kept l k → Kept k m → Kept l m
+pub kept_on : {l k m : Arrays} → StatesKept l k → StatesKept k m → StatesKept l m
 kept_on p q = record { status = q.status ∙ p.status; count = q.count ∙ p.count; steps = omega (arith, p.steps, q.steps) }
 
 module _ (w s r : ℕ) (σ : List ℕ) where
@@ -151,7 +151,7 @@ module _ (w s r : ℕ) (σ : List ℕ) where
       }
 
   -- A reduction that is refused.
-  pub midway_refused : (h : Held) (l k m : Line) (e : TurnRefusal) → RuleIn h r → k.states ≡ s ∷ σ → Some (Reduce r) ≡ cell_of h s w → Midway h w l k → reduction h k r ≡ refused (told e).number → Ran h w l (Err e) m
+  pub midway_refused : (h : Held) (l k m : Line) (e : TurnRefusal) → RuleIn h r → k.states ≡ s ∷ σ → Some (Reduce r) ≡ cell_of h s w → Midway h w l k → reduction h k r ≡ refused (told e).number → MachineRan h w l (Err e) m
   midway_refused blank l k m e i top cell mid x = cc
   midway_refused (holding G n A cells) l k m e i top cell mid x =
       let on : Halted (told e).number (ends G A cells w k) = subst (λ T. Goes r (ends G A cells w) T (ends G A cells w k)) x (machine_reduces G n A cells w r k s σ i top (sym cell)) in
@@ -159,21 +159,21 @@ module _ (w s r : ℕ) (σ : List ℕ) where
 
 module _ (w s : ℕ) (σ : List ℕ) where
   -- No action.
-  pub midway_none : (h : Held) (l k m : Line) → k.states ≡ s ∷ σ → None ≡ cell_of h s w → Midway h w l k → Ran h w l (Err NoAction) m
+  pub midway_none : (h : Held) (l k m : Line) → k.states ≡ s ∷ σ → None ≡ cell_of h s w → Midway h w l k → MachineRan h w l (Err NoAction) m
   midway_none blank l k m top cell mid = refl
   midway_none (holding G n A cells) l k m top cell mid =
       let on : ends G A cells w k ≡ stuck = ap (runs G A cells (768 - length k.rules) w) top ∙ runs_none G A cells w s σ (768 - length k.rules) (sym cell) in
       subst (Halted 14) (sym (mid.same ∙ ap (notes mid.steps) on ∙ notes_stuck mid.steps)) refl
 
   -- A shift.
-  pub midway_shift : (h : Held) (l k : Line) (t : ℕ) → k.states ≡ s ∷ σ → Some (Shift t) ≡ cell_of h s w → Midway h w l k → Ran h w l (Ok (Shifted t)) k
+  pub midway_shift : (h : Held) (l k : Line) (t : ℕ) → k.states ≡ s ∷ σ → Some (Shift t) ≡ cell_of h s w → Midway h w l k → MachineRan h w l (Ok (Shifted t)) k
   midway_shift blank l k t top cell mid = cc
   midway_shift (holding G n A cells) l k t top cell mid =
       let on : ends G A cells w k ≡ shifted (t ∷ k.states) [] = ap (runs G A cells (768 - length k.rules) w) top ∙ runs_shift G A cells w s σ (768 - length k.rules) t (sym cell) ∙ ap (λ τ. shifted (t ∷ τ) []) (sym top) in
       (mid.steps, mid.noting, mid.same ∙ ap (notes mid.steps) on ∙ notes_shifted mid.steps (t ∷ k.states))
 
   -- An accept.
-  pub midway_accept : (h : Held) (l k : Line) → k.states ≡ s ∷ σ → Some Accept ≡ cell_of h s w → Midway h w l k → Ran h w l (Ok Accepted) k
+  pub midway_accept : (h : Held) (l k : Line) → k.states ≡ s ∷ σ → Some Accept ≡ cell_of h s w → Midway h w l k → MachineRan h w l (Ok Accepted) k
   midway_accept blank l k top cell mid = cc
   midway_accept (holding G n A cells) l k top cell mid =
       let on : ends G A cells w k ≡ accepted k.states [] = ap (runs G A cells (768 - length k.rules) w) top ∙ runs_accept G A cells w s σ (768 - length k.rules) (sym cell) ∙ ap (λ τ. accepted τ []) (sym top) in

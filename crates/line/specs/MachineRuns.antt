@@ -31,8 +31,8 @@ pub record Noted (l k : Line) (ps : List ℕ) : Type 0 where
   pub words : k.words ≡ l.words
   pub rules : k.rules ≡ l.rules ++ ps
 
--- Between two lines in arrays only states and rules came.
-pub record Kept (l k : Arrays) : Type 0 where
+-- Between two lines in arrays: the status and the number of words are the same, and no rule went.
+pub record StatesKept (l k : Arrays) : Type 0 where
   pub status : k.status ≡ l.status
   pub count : k.count ≡ l.count
   pub steps : l.steps ≤ k.steps
@@ -45,10 +45,10 @@ EndsAt l (Ok Accepted) k o = (ps : List ℕ) × Noted l k ps × (o ≡ accepted 
 EndsAt l (Err e) k o = Halted (told e).number o
 
 -- The machine, run on the line l, ends on the line k. By blank tables it meets no action.
-abbrev pub Ran : Held → ℕ → Line → Result Stop TurnRefusal → Line → Type 0
-Ran blank w l (Ok x) k = ⊥
-Ran blank w l (Err e) k = (told e).number ≡ 14
-Ran (holding G n A cells) w l r k = EndsAt l r k (ends G A cells w l)
+abbrev pub MachineRan : Held → ℕ → Line → Result Stop TurnRefusal → Line → Type 0
+MachineRan blank w l (Ok x) k = ⊥
+MachineRan blank w l (Err e) k = (told e).number ≡ 14
+MachineRan (holding G n A cells) w l r k = EndsAt l r k (ends G A cells w l)
 
 -- The machine takes a word, or refuses it.
 abbrev pub Took : Held → ℕ → Line → Step PlanLine ℕ → Type 0

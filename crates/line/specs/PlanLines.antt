@@ -1,5 +1,5 @@
 -- A designer's line as plain values.
-use Rattle.std.specs.Prelude.{Bool, true, false, reverse, take}
+use Rattle.std.specs.Prelude.{◌≡◌, Bool, true, false, replicate, reverse, take}
 use Rattle.grammar.specs.Line.{Line, fresh_line}
 use Rattle.line.specs.declared.line.Line.{Line as Arrays}
 use Rattle.line.specs.declared.status.Status.{Status}
@@ -17,6 +17,11 @@ fresh_plan_line = record { judged = false; line = fresh_line }
 abbrev pub is_judged : Status → Bool
 is_judged Open = false
 is_judged Judged = true
+
+-- All memory of a line is 0, in front of its counts and behind them.
+abbrev pub Cleared : Arrays → Type 0
+Cleared l =
+    (l.states ≡ replicate 1025 0) × (l.words ≡ replicate 256 0) × (l.rules ≡ replicate 768 0)
 
 -- What a line stands for: the first `depth` states, the top first, the first `count` words and the
 -- first `steps` rules.

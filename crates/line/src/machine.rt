@@ -1,5 +1,5 @@
 // The machine on a line.
-ghost use Rattle.line.specs.MachineRuns.{Kept, Ran};
+ghost use Rattle.line.specs.MachineRuns.{StatesKept, MachineRan};
 ghost use Rattle.line.specs.PlanLines.{plan_line_of};
 ghost use Rattle.line.specs.Reductions.{reduction, turned_to};
 ghost use Rattle.tables.specs.Building.{held};
@@ -25,7 +25,7 @@ impl Line {
     pub(crate) fn reduce(&mut self, tables: &Tables, rule: u8) -> Result<(), TurnRefusal>
         ensures reduced { reduction (held tables.now) (plan_line_of self.old).line rule
             ≡ turned_to result (plan_line_of self.new).line }
-        ensures kept { Kept self.old self.new }
+        ensures kept { StatesKept self.old self.new }
     {
         if self.steps == 768 {
             return Err(TurnRefusal::Reductions);
@@ -44,9 +44,9 @@ impl Line {
 
     // Runs the machine at a word, or at the end mark 0, up to a shift or an accept.
     pub(crate) fn run(&mut self, tables: &Tables, word: u8) -> Result<Stop, TurnRefusal>
-        ensures ran { Ran (held tables.now) word (plan_line_of self.old).line result
+        ensures ran { MachineRan (held tables.now) word (plan_line_of self.old).line result
             (plan_line_of self.new).line }
-        ensures kept { Kept self.old self.new }
+        ensures kept { StatesKept self.old self.new }
     {
         // Each round but the last reduces; a `for` over the 768 would need an answer behind its end
         // that no call comes to.

@@ -1,6 +1,6 @@
 // A fresh line, and what a line tells.
 ghost use Rattle.std.specs.Prelude.{◌≡◌, ◌≤◌, length};
-ghost use Rattle.line.specs.PlanLines.{fresh_plan_line, is_judged, plan_line_of};
+ghost use Rattle.line.specs.PlanLines.{Cleared, fresh_plan_line, is_judged, plan_line_of};
 
 use super::line::Line;
 use super::status::Status;
@@ -8,7 +8,8 @@ use super::status::Status;
 impl Line {
     // An open line without words, in state 0.
     pub fn fresh() -> Line
-        ensures { plan_line_of result ≡ fresh_plan_line }
+        ensures fresh { plan_line_of result ≡ fresh_plan_line }
+        ensures cleared { Cleared result }
     {
         Line {
             states: [0; 1025],

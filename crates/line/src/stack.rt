@@ -1,6 +1,6 @@
 // The stack of states of a line.
 ghost use Rattle.std.specs.Prelude.{◌≡◌, ℕ, ◌<◌, ◌≤◌, true, ◌∷◌, drop, is_some};
-ghost use Rattle.line.specs.MachineRuns.{Kept};
+ghost use Rattle.line.specs.MachineRuns.{StatesKept};
 ghost use Rattle.line.specs.PlanLines.{plan_line_of};
 ghost use Rattle.line.specs.Stacks.{Under, replaced, shifted};
 
@@ -29,7 +29,7 @@ impl Line {
         requires length_lt_depth { length < self.old.depth }
         requires steps_bound { self.old.steps < 768 }
         ensures replaced { plan_line_of self.new ≡ replaced (plan_line_of self.old) length to rule }
-        ensures kept { Kept self.old self.new }
+        ensures kept { StatesKept self.old self.new }
     {
         let place = self.depth - usize::from(length);
         self.states[place] = to;

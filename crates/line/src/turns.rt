@@ -1,8 +1,8 @@
 // The turns of a line.
-ghost use Rattle.std.specs.Prelude.{◌≡◌, ◌<◌, OnErr};
+ghost use Rattle.std.specs.Prelude.{◌≡◌, ◌<◌, OnErr, OnOk};
 ghost use Rattle.line.specs.LineTurns.{asking, freshen_on, judge_on, word_on};
 ghost use Rattle.line.specs.MachineRuns.{Decided, Took};
-ghost use Rattle.line.specs.PlanLines.{is_judged, plan_line_of};
+ghost use Rattle.line.specs.PlanLines.{Cleared, is_judged, plan_line_of};
 ghost use Rattle.line.specs.Steps.{done, step_of};
 ghost use Rattle.tables.specs.Building.{held};
 
@@ -90,10 +90,11 @@ impl Line {
         self.decide(tables)
     }
 
-    // Makes a line of this status fresh; refused, the line is as it was.
+    // Makes a line of this status fresh, in all its memory; refused, the line is as it was.
     pub fn freshen(&mut self, status: Status) -> Result<(), TurnRefusal>
         ensures turned { freshen_on (is_judged status) (plan_line_of self.old)
             ≡ step_of result (plan_line_of self.new) }
+        ensures cleared { OnOk result (Cleared self.new) }
         ensures kept { OnErr result (self.new ≡ self.old) }
     {
         self.expect(status)?;

@@ -28,7 +28,7 @@ pub record Law (G : Grammar) (goto : ℕ → ℕ → Option ℕ) (cells : ℕ �
       → RightTurn G goto cells n₀ (account before) t
   pub written : Written G b₀ n₀ (account turns).booked book_now free_now
 
--- The three promises by themselves: an open line is judged good exactly when its words are a
+-- The three promises by themselves, which follow from the law: an open line is judged good exactly when its words are a
 -- sentence of at most 768 derivation steps; a word that comes to an open line below its limits is
 -- taken exactly when some sentence begins so; and the book holds the entries of the booked lines.
 pub record Promises (G : Grammar) (goto : ℕ → ℕ → Option ℕ) (cells : ℕ → ℕ → Option Action)

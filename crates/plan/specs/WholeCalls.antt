@@ -35,7 +35,8 @@ abbrev pub settling_call : Held → Model → ℕ → SlipModel → BookStepped
 settling_call h m free s =
     unless_booked h s (book_step h m free s.designer).answer (book_step h m free s.designer)
 
--- What comes behind the judging: the slip is settled, and a line without one is cleared.
+-- What comes behind the judging: the slip is settled, and a line without one is cleared, if it is
+-- open.
 abbrev pub behind_judging : Held → ℕ → ℕ → Answer SlipModel → Model → BookStepped
 behind_judging h free d (given s) m = settling_call h m free s
 behind_judging h free d (refused c) m = not_booking (clear_step h m d).next c

@@ -29,7 +29,8 @@ pub data SettlingSlip (s : SlipModel) : Answer ℕ → List Turn → Type 0 wher
   booked : (n : ℕ) → SettlingSlip s (given n) (book s (given n) ∷ [])
   withdrawn : (c : ℕ) → SettlingSlip s (refused c) (book s (refused c) ∷ withdraw s (given tt) ∷ [])
 
--- What comes behind the judging: the slip is settled, and a line without one is cleared.
+-- What comes behind the judging: the slip is settled, and a line without one is cleared, if it is
+-- open.
 abbrev pub Settling : ℕ → Answer SlipModel → Answer ℕ → List Turn → Type 0
 Settling d (given s) x turns = SettlingSlip s x turns
 Settling d (refused c) x turns =

@@ -65,8 +65,9 @@ impl<B: Book> Plan<B> {
         }
     }
 
-    // Brings the words to a designer's line, judges it and books it, to the first refusal; a judged
-    // line is then withdrawn, and an open one cleared.
+    // Brings the words to a designer's line, judges it and books it, to the first refusal; the line
+    // is then withdrawn if this call judged it, and cleared if it is open. One that was judged before
+    // stays so.
     pub fn book_words(&mut self, designer: u8, words: &[u16]) -> Result<u64, TurnRefusal>
         ensures step { let step = line_call B.free self.old designer words.now in
             (step.answer ≡ answer_of result)
@@ -81,7 +82,7 @@ impl<B: Book> Plan<B> {
         match self.judge_words(designer, words) {
             Ok(slip) => self.settle(slip),
             Err(refusal) => {
-                // Refused where there is no such line, and nothing is to be cleared.
+                // Refused where there is no such line, or it was judged before: nothing is to be cleared.
                 let _ = self.clear(designer);
                 Err(refusal)
             }

@@ -1,3 +1,3 @@
--- What the input's parts are, what a sheet comes to, and what a line says.
+-- What the input's parts are, and what a line says.
 pub mod InputParts
 pub mod TypedLines
