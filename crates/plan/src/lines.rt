@@ -62,7 +62,7 @@ impl Seat {
         if !enter(book, entry.as_slice()) {
             return Err(TurnRefusal::FullBook);
         }
-        self.line = Line::fresh();
+        *self = Seat::fresh();
         Ok(())
     }
 }
