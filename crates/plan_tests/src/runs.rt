@@ -33,6 +33,14 @@ fn clear(designer: u8) -> Asked {
     ask(Request::Clear { designer })
 }
 
+fn line(designer: u8, words: &[u16]) -> LineAsked<'_> {
+    LineAsked {
+        designer,
+        words,
+        answer: None,
+    }
+}
+
 fn opened<'a>(rt: &impl Abort, text: &'a str) -> WrittenSheet<'a> {
     let mut sheet = WrittenSheet::new();
     assert_eq!(rt; sheet.open(text.as_bytes()), Ok(()));
@@ -71,7 +79,7 @@ fn all_empty(rt: &impl Abort, slips: [Option<Slip>; 2]) {
 
 #[test]
 fn a_day(rt: HostRuntime) {
-    let mut memory = [77; 20];
+    let mut memory = [77; 12];
     let mut asked = [
         word(2, 1),
         judge(2, 0),
@@ -120,14 +128,14 @@ fn a_day(rt: HostRuntime) {
             Reply::Refused(TurnRefusal::NoAction),
         ],
     );
-    assert_eq!(rt; memory[..9], [2, 2, 3, 1, 2, 2, 4, 1, 77]);
+    assert_eq!(rt; memory, [2, 2, 3, 1, 2, 2, 4, 1, 77, 77, 77, 77]);
     all_empty(&rt, slips);
 }
 
 // A slip of another plan lies in a slot: it acts on this plan's line of its designer, and is kept where it is refused.
 #[test]
 fn a_slip_from_elsewhere(rt: HostRuntime) {
-    let (mut ours, mut theirs) = ([77; 20], [77; 20]);
+    let (mut ours, mut theirs) = ([77; 12], [77; 12]);
     let mut there = Plan::open(tables_of(&rt, SHEET_A), NumberPage::open(&mut theirs));
     let slip = bring_line(&rt, &mut there, 2, &[1, 2, 3]);
     let mut slips = [Some(slip), None];
@@ -156,16 +164,18 @@ fn a_slip_from_elsewhere(rt: HostRuntime) {
             Reply::Refused(TurnRefusal::Status),
         ],
     );
-    assert_eq!(rt; ours[..9], [2, 2, 3, 1, 2, 2, 4, 1, 77]);
+    assert_eq!(rt; ours, [2, 2, 3, 1, 2, 2, 4, 1, 77, 77, 77, 77]);
     // the line there is still judged, and takes the slip that is left
-    match slips {
-        [None, Some(slip)] => {
+    let [first, second] = slips;
+    match (first, second) {
+        (None, Some(slip)) => {
             assert_eq!(rt; told(&slip), (2, 2, 3));
             assert_eq!(rt; book_slip(&rt, &mut there, slip), 1);
         }
-        _ => panic!(rt; "other slips are left"),
+        (Some(_slip), _) => panic!(rt; "the other plan's slip is left"),
+        (None, None) => panic!(rt; "no slip is left"),
     }
-    assert_eq!(rt; theirs[..11], [2, 3, 4, 1, 2, 3, 2, 4, 3, 1, 77]);
+    assert_eq!(rt; theirs, [2, 3, 4, 1, 2, 3, 2, 4, 3, 1, 77, 77]);
 }
 
 // A sheet that conflicts: the book comes back, and nothing that was lent has changed.
@@ -193,11 +203,7 @@ fn no_tables(rt: HostRuntime) {
     }
     assert_eq!(rt; asked, before);
     all_empty(&rt, slips);
-    let mut lines = [LineAsked {
-        designer: 0,
-        words: &[1],
-        answer: None,
-    }];
+    let mut lines = [line(0, &[1])];
     let page = NumberPage::open(&mut memory);
     match book_all(&sheet, page, &mut lines) {
         Ok(_page) => panic!(rt; "built"),
@@ -226,19 +232,14 @@ fn lines_at_once(rt: HostRuntime) {
     let mut memory = [77; 20];
     let sheet = opened(&rt, SHEET_A);
     let mut lines = [
-        (0, &[1, 2, 3] as &[u16]),
-        (3, &[3]),
-        (3, &[]),
-        (8, &[1, 2]),
-        (3, &[1, 0]),
-        (3, &[1, 2]),
-        (3, &[1, 2]),
-    ]
-    .map(|(designer, words)| LineAsked {
-        designer,
-        words,
-        answer: None,
-    });
+        line(0, &[1, 2, 3]),
+        line(3, &[3]),
+        line(3, &[]),
+        line(8, &[1, 2]),
+        line(3, &[1, 0]),
+        line(3, &[1, 2]),
+        line(3, &[1, 2]),
+    ];
     match book_all(&sheet, NumberPage::open(&mut memory), &mut lines) {
         Ok(page) => assert_eq!(rt; (page.len(), page.free()), (18, 2)),
         Err((refusal, _page)) => panic!(rt; "refused {refusal}"),
