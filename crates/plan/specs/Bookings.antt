@@ -9,7 +9,7 @@ use Rattle.line.specs.TurnRefusals.{told}
 use Rattle.line.specs.declared.turn_refusal.TurnRefusal.{TurnRefusal}
 use Rattle.plan.specs.Turns.{SlipModel}
 use Rattle.plan.specs.Model.{Model, PlanLine, plan_line}
-use Rattle.plan.specs.Steps.{entry_on, book_on, not_booking, book_step}
+use Rattle.plan.specs.Steps.{entry_on, book_on, not_booking}
 use Rattle.plan.specs.Plans.{PlanValue, booking}
 use Rattle.plan.specs.Lent.{IsHolding}
 

@@ -2,7 +2,7 @@
 ghost use Rattle.plan.specs.Made.{Made};
 ghost use Rattle.plan.specs.Requests.{Answered, Replied};
 ghost use Rattle.plan.specs.Runs.{Ran};
-ghost use Rattle.std.specs.Prelude.{◌≡◌};
+ghost use Rattle.std.specs.Prelude.{◌≡◌, None, Some};
 
 use super::plan::Plan;
 use super::request::{Asked, Reply, Request};
@@ -10,6 +10,16 @@ use super::slip::Slip;
 use book::Book;
 use sheet::RuleSheet;
 use tables::{BuildRefusal, Tables};
+
+// Puts a slip into an empty slot, so that none is let go.
+fn put(slot: &mut Option<Slip>, slip: Slip)
+    requires { slot.old ≡ None }
+    ensures { slot.new ≡ Some slip }
+{
+    if let Some(other) = slot.replace(slip) {
+        other.spend();
+    }
+}
 
 impl<B: Book> Plan<B> {
     // Judges a line, and keeps its slip in an empty slot.
@@ -25,10 +35,7 @@ impl<B: Book> Plan<B> {
         }
         match self.judge(designer) {
             Ok(slip) => {
-                // The slot is empty, so that nothing is let go here.
-                if let Some(other) = slips[slot].replace(slip) {
-                    other.spend();
-                }
+                put(&mut slips[slot], slip);
                 Reply::Judged
             }
             Err(refusal) => Reply::Refused(refusal),
@@ -49,10 +56,7 @@ impl<B: Book> Plan<B> {
         match self.book(slip) {
             Ok(count) => Reply::Booked(count),
             Err((refusal, slip)) => {
-                // The slot was left empty above.
-                if let Some(other) = slips[slot].replace(slip) {
-                    other.spend();
-                }
+                put(&mut slips[slot], slip);
                 Reply::Refused(refusal)
             }
         }
@@ -72,10 +76,7 @@ impl<B: Book> Plan<B> {
         match self.withdraw(slip) {
             Ok(()) => Reply::Withdrawn,
             Err((refusal, slip)) => {
-                // The slot was left empty above.
-                if let Some(other) = slips[slot].replace(slip) {
-                    other.spend();
-                }
+                put(&mut slips[slot], slip);
                 Reply::Refused(refusal)
             }
         }

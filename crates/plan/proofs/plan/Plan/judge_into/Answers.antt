@@ -18,15 +18,15 @@ returns-then-is_some g c =
     made_none b.list b.free b.grows b.laws _ c.args.self.now
     (slot_full c.args.designer c.args.slot x.0 (has c.args.slips.now c.args.slot _ _ c.if-slot-slips.false x.1))
 
-pub returns-in_default : goal.returns-in_default
-returns-in_default g c =
+pub returns-in-Ok : goal.returns-in-Ok
+returns-in-Ok g c =
     let b = g.B.Book in
     let i = c.args.slot in
     let s = c.args.slips.now in
     let x = c.in-Ok.slip in
     let none = has s i _ _ c.if-slot-slips.false (empty _ c.if-is_some.ensures) in
     made_turn b.list b.free b.grows b.laws _ c.args.self.now c.judge.new.self (judge c.args.designer (given x)) c.in-Ok.ensures.kept c.in-Ok.ensures.law
-    (rw c.replace.ensures.after (judged c.args.designer i x none))
+    (rw c.put.ensures (judged c.args.designer i x none))
 
 pub returns-in-Err : goal.returns-in-Err
 returns-in-Err g c =

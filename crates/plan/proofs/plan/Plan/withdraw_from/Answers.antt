@@ -33,14 +33,14 @@ returns-in-Ok g c =
     let some = has c.args.slips.now i _ _ c.if-slot-slips.false (sym c.take.ensures.value ∙ c.in-Some.is) in
     made_turn b.list b.free b.grows b.laws _ c.args.self.now c.withdraw.new.self (withdraw x (given tt)) y.kept y.law (rw c.take.ensures.after (withdrawn i x some))
 
-pub returns-in_default-replace : goal.returns-in_default-replace
-returns-in_default-replace g c =
+pub returns-in-Err : goal.returns-in-Err
+returns-in-Err g c =
     let b = g.B.Book in
     let i = c.args.slot in
     let x = c.in-Some.slip in
     let e = c.in-Err.refusal in
     let y = c.in-Err.ensures in
     let some = has c.args.slips.now i _ _ c.if-slot-slips.false (sym c.take.ensures.value ∙ c.in-Some.is) in
-    let same = put_back c.args.slips.now i x _ _ some c.take.ensures.after (c.replace.ensures.after ∙ ap Some y.back) in
+    let same = put_back c.args.slips.now i x _ _ some c.take.ensures.after (c.put.ensures ∙ ap Some y.back) in
     made_turn b.list b.free b.grows b.laws _ c.args.self.now c.withdraw.new.self (withdraw x (refused (told e).number)) y.kept y.law
     (subst (λ s. Replied (Withdraw i) (Refused e) c.args.slips.now s (withdraw x (refused (told e).number) ∷ [])) (sym same) (not_withdrawn i x e some))
