@@ -41,10 +41,6 @@ module _ {B : Type 0} (list : B → List ℕ) (free : B → ℕ) (grows : B → 
         tables = same.0;
       }
 
-  -- The same turns, said otherwise.
-  pub made_as : (P Q : List Turn → Type 0) (a b : PlanValue B) → MadeFrom P a b → ((ts : List Turn) → P ts → Q ts) → MadeFrom Q a b
-  made_as P Q a b x f = record { turns = x.turns; are = f x.turns x.are; law = x.law; grown = x.grown; tables = x.tables }
-
   -- More calls, by the same tables.
   pub made_then : {P Q : List Turn → Type 0} (R : List Turn → Type 0) (a b c : PlanValue B) → MadeFrom P a b → MadeFrom Q b c → ((ts us : List Turn) → P ts → Q us → R (ts ++ us)) → MadeFrom R a c
   made_then R a b c x y f =

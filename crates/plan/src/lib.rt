@@ -7,13 +7,13 @@ mod plan;
 mod request;
 mod requests;
 mod slip;
-mod theorems;
 mod whole_line;
 mod whole_lines;
+mod worked;
 
 pub use plan::Plan;
 pub use request::{Asked, Reply, Request};
 pub use requests::run;
 pub use slip::Slip;
-pub use theorems::worked_entry;
 pub use whole_lines::{LineAsked, book_all};
+pub use worked::worked_entry;

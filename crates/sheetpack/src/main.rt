@@ -23,7 +23,10 @@ fn print_body<S: RuleSheet>(rt: &HostRuntime, sheet: &S, rule: u16) -> io::Resul
         return Ok(());
     };
     print!(rt; "{left} {length}")?;
-    for code in (0..length).filter_map(|place| sheet.code(rule, place)) {
+    for place in 0..length {
+        let Some(code) = sheet.code(rule, place) else {
+            break;
+        };
         print!(rt; " {code}")?;
     }
     println!(rt; "")
@@ -32,9 +35,11 @@ fn print_body<S: RuleSheet>(rt: &HostRuntime, sheet: &S, rule: u16) -> io::Resul
 // The places of the bodies, each behind the one before it.
 fn print_contents<S: RuleSheet>(rt: &HostRuntime, sheet: &S) -> io::Result<()> {
     let mut at = 3 + u32::from(sheet.rules());
-    let lengths = (1..=sheet.rules()).filter_map(|rule| sheet.length(rule));
-    for (before, length) in lengths.enumerate() {
-        if before > 0 {
+    for rule in 1..=sheet.rules() {
+        let Some(length) = sheet.length(rule) else {
+            break;
+        };
+        if rule > 1 {
             print!(rt; " ")?;
         }
         print!(rt; "{at}")?;
