@@ -8,6 +8,12 @@ is_unseen Unseen = true
 is_unseen (Open low) = false
 is_unseen Done = false
 
+-- The place of a kind in the order.
+abbrev pub kind : Visit → ℕ
+kind Unseen = 0
+kind (Open low) = 1
+kind Done = 2
+
 -- The lower of two.
 abbrev pub lower : Visit → Visit → Visit
 lower Unseen w = Unseen

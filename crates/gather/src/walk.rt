@@ -63,7 +63,8 @@ impl<'a, J: Join> Walk<'a, J> {
         requires few { length self.old.values.now ≤ 2304 }
         ensures { snap self.new ≡ folded J.NONE J.op (snap self.old) place target }
     {
-        self.visits[place] = self.visits[place].min(self.visits[target]);
+        let visit = self.visits[target];
+        self.visits[place].lower_to(visit);
         self.values[place] = self.values[place].join(self.values[target]);
     }
 
