@@ -3,7 +3,10 @@ use Rattle.std.proofs.Common.{◌≡◌, ℕ, ◌+◌, ◌*◌, ◌/◌, ◌%◌
 use Rattle.std.specs.List.{slice_get, range_with_len}
 use Rattle.std.proofs.lemmas.List.{length-map, get_or-map}
 use Rattle.std.proofs.lemmas.List.FromFn.{length-range_with_len, get_or-range_with_len}
-use Rattle.std.proofs.lemmas.Option.{slice_get_past}
+use Rattle.std.specs.Option.{option_map, unwrap_or}
+use Rattle.std.proofs.lemmas.Option.{none-some, slice_get-map, slice_get_past, slice_get_read, slice_get_within}
+use Rattle.bounded.specs.BoundedList.{listed}
+use Rattle.bounded.specs.declared.bounded_list.BoundedList.{BoundedList}
 use Rattle.std.proofs.lemmas.Bool.{and_parts, and_from}
 use Rattle.gather.specs.Reach.{Step}
 use Rattle.grammar.specs.Grammar.{Grammar}
@@ -13,7 +16,7 @@ use Rattle.tables.specs.declared.rules.Rules.{Rules}
 use Rattle.tables.specs.declared.states.States.{States}
 use Rattle.tables.specs.Arrays.{grammar_of, automaton}
 use Rattle.tables.specs.NullableMarks.{NullableMarks}
-use Rattle.tables.specs.ReadSteps.{passes, chosen, reads_behind, reads_from}
+use Rattle.tables.specs.ReadSteps.{FoundBelow, passes, chosen, reads_behind, reads_from}
 use Rattle.tables.specs.Transitions.{transition_at}
 use Rattle.tables.proofs.Answered.{told_some}
 use Rattle.tables.proofs.Filtered.{few_filtered, filtered, kept}
@@ -46,6 +49,24 @@ module _ (R : Rules) (S : States) (null : List Bool) where
 
   pub next_none : (i k : ℕ) → None ≡ A.goto (transition_at R i).0 (transition_at R i).1 → None ≡ slice_get (reads_from R S null i) k
   next_none i k e = sym (slice_get_past (reads_from R S null i) k (omega (arith, ap length (from_none i e))))
+
+  pub next_found : (i t k : ℕ) (l : List ℕ) (o : Option ℕ) → Some t ≡ A.goto (transition_at R i).0 (transition_at R i).1 → l ≡ chosen R S null t → o ≡ slice_get l k → option_map (λ k. 24 * t + k) o ≡ slice_get (reads_from R S null i) k
+  next_found i t k l o e all same =
+      next_some i t k (option_map (λ k. 24 * t + k) o) e (ap (option_map (λ k. 24 * t + k)) (same ∙ ap (λ m. slice_get m k) all) ∙ sym (slice_get-map (λ k. 24 * t + k) (chosen R S null t) k))
+
+  -- The numbers found for a state, read from their list.
+  module _ (n : ℕ) (found : List (BoundedList ℕ 24)) (all : FoundBelow R S null n found) where
+    pub found_within : (t : ℕ) → t < n → t < length found
+    found_within t l = go (slice_get found t) refl (all t l)
+      where
+        go : (o : Option (BoundedList ℕ 24)) → slice_get found t ≡ o → option_map listed o ≡ Some (chosen R S null t) → t < length found
+        go None e h = absurd (none-some _ h)
+        go (Some x) e h = slice_get_within found t x e
+
+    pub found_at : (t : ℕ) (x : BoundedList ℕ 24) → t < n → x ≡ get_or found t x → listed (get_or found t x) ≡ chosen R S null t
+    found_at t x l e =
+        let here = slice_get_read found (length found) t x refl (found_within t l) e in
+        ap listed (sym e) ∙ ap (λ o. unwrap_or o (listed x)) (ap (option_map listed) (sym here) ∙ all t l)
 
   -- No list is long.
   few_chosen : (t : ℕ) → length (map (λ k. 24 * t + k) (chosen R S null t)) ≤ R.nonterminals

@@ -13,7 +13,7 @@ use super::grouped::Grouped;
 use super::includes::include_steps;
 use super::machine::Machine;
 use super::nullable::nullable;
-use super::reads::Reads;
+use super::reads::{Reads, find_leading};
 use super::step::Step;
 use bounded::BoundedList;
 use gather::{Join, WordSet, gather};
@@ -42,7 +42,13 @@ fn gathered_sets(machine: &Machine, null: &[bool; 88], includes: &Grouped) -> [W
     ensures { SetsOf (FollowAt machine.now.rules machine.now.states) 2304 result }
 {
     let mut sets = direct_by_place(machine);
-    let gathered = gather(&mut sets, &Reads { machine, null });
+    let found = find_leading(machine, null);
+    let reads = Reads {
+        machine,
+        null,
+        found: &found,
+    };
+    let gathered = gather(&mut sets, &reads);
     prove!(gathered.is_ok());
     let gathered = gather(&mut sets, includes);
     prove!(gathered.is_ok());
