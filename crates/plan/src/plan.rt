@@ -110,6 +110,7 @@ impl<B: Book> Plan<B> {
         ensures step { judge_step (held self.old.tables) self.old.model designer
             ≡ record { answer = answer_of result; next = self.new.model } }
         ensures kept { SameBook self.old self.new }
+        ensures waiting { Waiting self.new result }
         ensures law { LawKept B.list B.free self.old (judge_made designer result) self.new }
     {
         self.judge_line(designer)
