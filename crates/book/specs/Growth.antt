@@ -24,7 +24,7 @@ module _ {C : Type 0} {width : ℕ} (f : Form C width) where
   written_length p ns memory fits cells =
       ap length cells ∙ length-paste p.memory.now (width * held_by p) (flat_map f.cells ns) (width * length ns) (omega (arith, fits, mul-add width (held_by p) (length ns))) (omega (arith, length_written f ns))
 
-  grown_length : (p : Page C width) (ns : List ℕ) (q : Page C width) → Grows f p ns q → length q.memory.now ≡ length p.memory.now
+  pub grown_length : (p : Page C width) (ns : List ℕ) (q : Page C width) → Grows f p ns q → length q.memory.now ≡ length p.memory.now
   grown_length p ns q g = written_length p ns q.memory.now g.fits g.cells
 
   pub grows_none : (p : Page C width) → Grows f p [] p
